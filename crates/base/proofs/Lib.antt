@@ -1,0 +1,4 @@
+-- The laws about the words of specs/.
+pub mod Says
+pub mod Search
+pub mod Counts

@@ -1,0 +1,26 @@
+-- What a caller learns from an answer. Assumes nothing.
+use mathlib.Core.Path.{_≡_, sym, subst}
+use mathlib.Core.Bool.{Bool, true, false, not, true≢false}
+use Rattle.base.specs.Says.{Says}
+
+-- what an answer says, once the answer is known
+pub told : {A : Type 0} (P : A → Type 0) {x y : A} → x ≡ y → P x → P y
+told P e p = subst P e p
+
+-- a function that says yes, and one that says no
+pub said-yes : {P : Type 0} (b : Bool) → b ≡ true → Says b P → P
+said-yes true e s = s
+said-yes false e s = absurd (true≢false (sym e))
+
+pub said-no : {P : Type 0} (b : Bool) → b ≡ false → Says b P → P → ⊥
+said-no false e s = s
+said-no true e s = absurd (true≢false e)
+
+-- the same where the caller asked `!answer`
+pub not-refused : {P : Type 0} (b : Bool) → not b ≡ false → Says b P → P
+not-refused true e s = s
+not-refused false e s = absurd (true≢false e)
+
+pub refused : {P : Type 0} (b : Bool) → not b ≡ true → Says b P → P → ⊥
+refused false e s = s
+refused true e s = absurd (true≢false (sym e))

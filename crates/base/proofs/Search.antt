@@ -1,0 +1,37 @@
+-- The laws of the two searches: each statement determines its answer. Assumes nothing.
+use mathlib.Core.Path.{_≡_}
+use Prim.Native.Nat.{ℕ, _-_, _<_}
+use native.Mathlib.Decide.{decLt}
+use native.Mathlib.Omega.{arith}
+use Rattle.base.specs.Search.{Stops, Since}
+
+-- ---- upwards
+
+-- nothing has been tried yet
+pub stops-start : {P : ℕ → Type 0} (a : ℕ) → Stops P a a a
+stops-start a = record { low = omega arith; high = omega arith; before = λ k l h. absurd (omega arith); fails = λ h. absurd (omega arith) }
+
+-- two answers to one search: neither is before the other
+no-sooner : {P : ℕ → Type 0} {a b r s : ℕ} → Stops P a b r → Stops P a b s → r < s → ⊥
+no-sooner {r = r} x y l = let lo = x .low in let hi = y .high in x .fails (omega arith) (y .before r lo l)
+
+pub stops-once : {P : ℕ → Type 0} {a b r s : ℕ} → Stops P a b r → Stops P a b s → r ≡ s
+stops-once {r = r} {s = s} x y = go (decLt r s) (decLt s r)
+  where
+    go : Dec (r < s) → Dec (s < r) → r ≡ s
+    go (yes l) d = absurd (no-sooner x y l)
+    go (no g) (yes l) = absurd (no-sooner y x l)
+    go (no g) (no h) = omega arith
+
+-- ---- downwards
+
+no-lower : {P : ℕ → Type 0} {a b r s : ℕ} → Since P a b r → Since P a b s → r < s → ⊥
+no-lower {r = r} {s = s} x y l = let lo = x .low in let hi = y .high in y .fails (omega arith) (x .after (s - 1) (omega arith) (omega arith))
+
+pub since-once : {P : ℕ → Type 0} {a b r s : ℕ} → Since P a b r → Since P a b s → r ≡ s
+since-once {r = r} {s = s} x y = go (decLt r s) (decLt s r)
+  where
+    go : Dec (r < s) → Dec (s < r) → r ≡ s
+    go (yes l) d = absurd (no-lower x y l)
+    go (no g) (yes l) = absurd (no-lower y x l)
+    go (no g) (no h) = omega arith

@@ -1,0 +1,4 @@
+-- The words in which the contracts of every crate speak.
+pub mod Says
+pub mod Search
+pub mod Ranges

@@ -1,0 +1,319 @@
+// Which page frames are free: a bitmap under its summaries, in memory that the caller lends.
+//
+// Every function takes any words of any length and any arguments. A length that is no full tree is
+// refused, and so is every other request that cannot be met, each with its reason and with every word
+// left as it was. What a success says of the frames holds for any words; what is exact, "the lowest"
+// and "none is free", holds where the summaries agree, as they do from `reset` on. `Corrupt` is
+// answered only where they do not agree; `check` alone decides whether they do.
+ghost use Prim.Native.Nat.{_<_};
+ghost use Rattle.bitmap_allocator.specs.Looks.{CapSays, CountSays, AnySays, TestSays, NextSays, CheckSays, WordsSays};
+ghost use Rattle.bitmap_allocator.specs.Changes.{ResetSays, AllocSays, RunSays, DeallocSays, RangeSays};
+use bitmap_search::Down;
+use bitmap_search::Next;
+use bitmap_search::Searched;
+
+// How many words a tree has.
+pub enum Words {
+    Count(usize),
+    // No full tree has so many frames.
+    NoSize,
+}
+
+// A number of frames.
+pub enum Counted {
+    Frames(usize),
+    // So many words are no full tree. Each enum below that has this variant means the same by it.
+    NotFull,
+}
+
+// Whether some frame is free.
+pub enum SomeFree {
+    Yes,
+    No,
+    NotFull,
+}
+
+// Whether a frame is free.
+pub enum Tested {
+    Free,
+    Taken,
+    // There is no such frame. Each enum below that has this variant means the same by it.
+    Outside,
+    NotFull,
+}
+
+// The lowest free frame at or above a number.
+pub enum NextFree {
+    Frame(usize),
+    Nothing,
+    // A summary was met that does not agree with its word. Each enum below that has this variant
+    // means the same by it.
+    Corrupt,
+    Outside,
+    NotFull,
+}
+
+// Whether the summaries agree.
+pub enum Checked {
+    Sound,
+    // The lowest word with a bit that does not agree with the word that it summarises.
+    Lie(usize),
+    NotFull,
+}
+
+// What became of a tree that was to be wiped.
+pub enum Wiped {
+    Done,
+    NotFull,
+}
+
+// The frame that was taken.
+pub enum Allocated {
+    Frame(usize),
+    // No frame is free.
+    NoRoom,
+    Corrupt,
+    NotFull,
+}
+
+// The first frame of the run that was taken.
+pub enum RunTaken {
+    At(usize),
+    // There is no such run of free frames.
+    NoRoom,
+    Corrupt,
+    // A run of no frame was asked for.
+    Empty,
+    NotFull,
+}
+
+// What became of a frame that was to be freed.
+pub enum Freed {
+    Done,
+    // It was free before.
+    NotTaken,
+    Outside,
+    NotFull,
+}
+
+// What became of a range of frames that was to be freed or taken.
+pub enum Ranged {
+    Done,
+    // It ends where it starts.
+    Empty,
+    // It ends before it starts.
+    Reversed,
+    Outside,
+    NotFull,
+}
+
+// How many words a tree of so many frames has.
+pub fn words_for(frames: usize) -> Words
+    ensures { λ r. ⌜ WordsSays frames r ⌝ }
+{
+    if frames == 0 {
+        return Words::NoSize;
+    }
+    let w = (frames - 1) / 15;
+    if (frames - 1) % 15 != 0 {
+        return Words::NoSize;
+    }
+    if !bitmap_tree::is_full(w) {
+        return Words::NoSize;
+    }
+    Words::Count(w)
+}
+
+// How many frames there are.
+pub fn cap(tree: &[u16]) -> Counted
+    ensures { λ r. ⌜ CapSays (now (tree .entry)) r ⌝ }
+{
+    if !bitmap_tree::is_full(tree.len()) {
+        return Counted::NotFull;
+    }
+    Counted::Frames(15 * tree.len() + 1)
+}
+
+// How many frames are free.
+pub fn count_free(tree: &[u16]) -> Counted
+    ensures { λ r. ⌜ CountSays (now (tree .entry)) r ⌝ }
+{
+    if !bitmap_tree::is_full(tree.len()) {
+        return Counted::NotFull;
+    }
+    Counted::Frames(bitmap_tree::count(tree))
+}
+
+// Whether some frame is free.
+pub fn any(tree: &[u16]) -> SomeFree
+    ensures { λ r. ⌜ AnySays (now (tree .entry)) r ⌝ }
+{
+    if !bitmap_tree::is_full(tree.len()) {
+        return SomeFree::NotFull;
+    }
+    if tree[0] == 0 {
+        SomeFree::No
+    } else {
+        SomeFree::Yes
+    }
+}
+
+// Whether frame k is free.
+pub fn test(tree: &[u16], k: usize) -> Tested
+    ensures { λ r. ⌜ TestSays (now (tree .entry)) k r ⌝ }
+{
+    let w = tree.len();
+    if !bitmap_tree::is_full(w) {
+        return Tested::NotFull;
+    }
+    if 15 * w < k {
+        return Tested::Outside;
+    }
+    if bitmap_tree::read(tree, w + k) == 1 {
+        Tested::Free
+    } else {
+        Tested::Taken
+    }
+}
+
+// The lowest free frame at or above k.
+pub fn next(tree: &[u16], k: usize) -> NextFree
+    ensures { λ r. ⌜ NextSays (now (tree .entry)) k r ⌝ }
+{
+    let w = tree.len();
+    if !bitmap_tree::is_full(w) {
+        return NextFree::NotFull;
+    }
+    if 15 * w < k {
+        return NextFree::Outside;
+    }
+    match bitmap_search::next_from(tree, k) {
+        Next::Frame(f) => NextFree::Frame(f),
+        Next::Nothing => NextFree::Nothing,
+        Next::Corrupt => NextFree::Corrupt,
+    }
+}
+
+// Whether the summaries agree, and where not.
+pub fn check(tree: &[u16]) -> Checked
+    ensures { λ r. ⌜ CheckSays (now (tree .entry)) r ⌝ }
+{
+    let w = tree.len();
+    if !bitmap_tree::is_full(w) {
+        return Checked::NotFull;
+    }
+    let n = bitmap_tree::first_lie(tree);
+    if n == w {
+        Checked::Sound
+    } else {
+        Checked::Lie((n - 1) / 16)
+    }
+}
+
+// Makes every frame taken, whatever the words held.
+pub fn reset(tree: &mut [u16]) -> Wiped
+    ensures { λ r. ⌜ ResetSays (now (tree .entry)) (now (tree .exit)) r ⌝ }
+{
+    let w = tree.len();
+    if !bitmap_tree::is_full(w) {
+        return Wiped::NotFull;
+    }
+    bitmap_range::flood(tree, 0, w, 0);
+    Wiped::Done
+}
+
+// Takes the lowest free frame.
+pub fn alloc(tree: &mut [u16]) -> Allocated
+    ensures { λ r. ⌜ AllocSays (now (tree .entry)) (now (tree .exit)) r ⌝ }
+{
+    let w = tree.len();
+    if !bitmap_tree::is_full(w) {
+        return Allocated::NotFull;
+    }
+    if tree[0] == 0 {
+        return Allocated::NoRoom;
+    }
+    match bitmap_search::descend(tree, 0) {
+        Down::Lie => Allocated::Corrupt,
+        Down::To(j) => {
+            bitmap_tree::change_one(tree, j - w, 0);
+            Allocated::Frame(j - w)
+        }
+    }
+}
+
+// Takes the lowest run of `size` free frames whose first is a multiple of 2 to the power of
+// `align_log2`.
+pub fn alloc_contiguous(tree: &mut [u16], size: usize, align_log2: usize) -> RunTaken
+    ensures { λ r. ⌜ RunSays (now (tree .entry)) size «align_log2» (now (tree .exit)) r ⌝ }
+{
+    if !bitmap_tree::is_full(tree.len()) {
+        return RunTaken::NotFull;
+    }
+    if size == 0 {
+        return RunTaken::Empty;
+    }
+    match bitmap_search::find_run(tree, size, align_log2) {
+        Searched::Nowhere => RunTaken::NoRoom,
+        Searched::Corrupt => RunTaken::Corrupt,
+        Searched::At(s) => {
+            bitmap_range::change(tree, s, s + size, 0);
+            RunTaken::At(s)
+        }
+    }
+}
+
+// Makes frame k, which is taken, free.
+pub fn dealloc(tree: &mut [u16], k: usize) -> Freed
+    ensures { λ r. ⌜ DeallocSays (now (tree .entry)) k (now (tree .exit)) r ⌝ }
+{
+    let w = tree.len();
+    if !bitmap_tree::is_full(w) {
+        return Freed::NotFull;
+    }
+    if 15 * w < k {
+        return Freed::Outside;
+    }
+    if bitmap_tree::read(tree, w + k) == 1 {
+        return Freed::NotTaken;
+    }
+    bitmap_tree::change_one(tree, k, 1);
+    Freed::Done
+}
+
+// Makes the frames from `from` up to `to` free, whatever they were.
+pub fn insert(tree: &mut [u16], from: usize, to: usize) -> Ranged
+    ensures { λ r. ⌜ RangeSays (now (tree .entry)) from to 1 (now (tree .exit)) r ⌝ }
+{
+    change_range(tree, from, to, 1)
+}
+
+// Makes the frames from `from` up to `to` taken, whatever they were.
+pub fn remove(tree: &mut [u16], from: usize, to: usize) -> Ranged
+    ensures { λ r. ⌜ RangeSays (now (tree .entry)) from to 0 (now (tree .exit)) r ⌝ }
+{
+    change_range(tree, from, to, 0)
+}
+
+// What `insert` and `remove` have in common: the frames become free where v is 1, and taken where v
+// is 0.
+fn change_range(tree: &mut [u16], from: usize, to: usize, v: u16) -> Ranged
+    requires { ⌜ v < 2 ⌝ }
+    ensures { λ r. ⌜ RangeSays (now (tree .entry)) from to v (now (tree .exit)) r ⌝ }
+{
+    let w = tree.len();
+    if !bitmap_tree::is_full(w) {
+        return Ranged::NotFull;
+    }
+    if from == to {
+        return Ranged::Empty;
+    }
+    if to < from {
+        return Ranged::Reversed;
+    }
+    if 15 * w + 1 < to {
+        return Ranged::Outside;
+    }
+    bitmap_range::change(tree, from, to, v);
+    Ranged::Done
+}

@@ -1,0 +1,4 @@
+-- What the contracts of this crate cite, and of those above it.
+pub mod Heights
+pub mod Found
+pub mod Runs

@@ -1,0 +1,22 @@
+-- How a tree changes. Assumes nothing.
+use mathlib.Core.Path.{_≡_}
+use mathlib.Core.List.{List}
+use Prim.Native.Nat.{ℕ, _+_, _-_, _*_, _/_, _<_, _≤_, min}
+use lib.ListN.{length, getD}
+use Rattle.base.specs.Ranges.{Outside}
+use Rattle.bitmap_tree.specs.Tree.{nodeBit, free, Agree}
+
+-- t′ is t with v as the bit of each node from a up to b; a word that has none of them is as it was, and one that has no other is all v
+pub record Painted (t : List ℕ) (a b v : ℕ) (t′ : List ℕ) : Type 0 where
+  pub long : length t′ ≡ length t
+  pub inside : (k : ℕ) → a ≤ k → k < b → nodeBit t′ k ≡ v
+  pub outside : (k : ℕ) → 0 < k → Outside a b k → nodeBit t′ k ≡ nodeBit t k
+  pub words : (n : ℕ) → ((a - 1) / 16 ≤ n → 16 * n + 1 < b → ⊥) → getD t′ n 0 ≡ getD t n 0
+  pub whole : (n : ℕ) → a ≤ 16 * n + 1 → 16 * n + 17 ≤ b → min 1 (getD t′ n 0) ≡ v
+
+-- the frames from a up to b are v in t′; no other frame changed, and summaries that agreed still agree
+pub record Changed (t : List ℕ) (a b v : ℕ) (t′ : List ℕ) : Type 0 where
+  pub inside : (k : ℕ) → a ≤ k → k < b → free t′ k ≡ v
+  pub others : (k : ℕ) → Outside a b k → free t′ k ≡ free t k
+  pub long : length t′ ≡ length t
+  pub agree : Agree t → Agree t′

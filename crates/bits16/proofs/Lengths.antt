@@ -1,0 +1,69 @@
+-- The length of a word in bits, the bits of a word's complement, and what `set_since` answers by them. Assumes nothing.
+use mathlib.Core.Path.{_≡_, sym, ap, _∙_}
+use Prim.Native.Nat.{ℕ, zero, suc, _+_, _-_, _*_, _/_, _%_, _^_, _≤_, _<_}
+use native.Mathlib.Nat.{pow-succ', mod-lt, lt-of-lt-of-le, le-div-iff-mul-le, div-lt-iff-lt-mul}
+use native.Mathlib.Decide.{decLt}
+use native.Mathlib.Omega.{arith}
+use lib.Pow.{pow-pos, pow-mono, field, mod-mod-pow}
+use lib.Count.{leadingZeros, leading-length}
+use Rattle.bits16.specs.Bits.{bit, SetSince}
+use Rattle.bits16.proofs.Laws.{bit-zero, bit-suc, bit-above, bit-within}
+
+-- the lowest e bits of a word are kept by `% 2 ^ e`
+bit-mod : (w e k : ℕ) → k < e → bit (w % 2 ^ e) k ≡ bit w k
+bit-mod w e k h =
+    let z : e ≡ (e - 1 - k + 1) + k = omega arith in
+    ap (λ (x : ℕ). bit (w % 2 ^ x) k) z ∙ ap (λ (x : ℕ). x % 2) (field w (e - 1 - k + 1) k) ∙ mod-mod-pow (w / 2 ^ k) (e - 1 - k) 1
+
+-- the complement of a word of n bits has the other bits
+bit-not : (n w k : ℕ) → w < 2 ^ n → k < n → bit (2 ^ n - 1 - w) k ≡ 1 - bit w k
+bit-not zero w k h l = omega arith
+bit-not (suc n) w zero h l =
+    let h₂ : w < 2 * 2 ^ n = rw (pow-succ' 2 n) at h in
+    rw (bit-zero w, bit-zero (2 ^ suc n - 1 - w), pow-succ' 2 n) (omega arith)
+bit-not (suc n) w (suc k) h l =
+    let h₂ : w < 2 * 2 ^ n = rw (pow-succ' 2 n) at h in
+    let half : (2 ^ suc n - 1 - w) / 2 ≡ 2 ^ n - 1 - w / 2 = rw (pow-succ' 2 n) (omega arith) in
+    bit-suc (2 ^ suc n - 1 - w) k ∙ ap (λ (x : ℕ). bit x k) half ∙ bit-not n (w / 2) k (omega arith) (omega arith)
+    ∙ ap (λ (x : ℕ). 1 - x) (sym (bit-suc w k))
+
+-- ---- a word x that is m bits long
+
+module _ (x m : ℕ) (below : x < 2 ^ m) (least : 2 ^ m ≤ 2 * x + 1) where
+  -- its highest bit is set
+  bit-top : 0 < m → bit x (m - 1) ≡ 1
+  bit-top p =
+      let e : m ≡ suc (m - 1) = omega arith in
+      let twice : 2 ^ m ≡ 2 * 2 ^ (m - 1) = ap (λ (y : ℕ). 2 ^ y) e ∙ pow-succ' 2 (m - 1) in
+      let some : 1 * 2 ^ (m - 1) ≤ x = omega arith in
+      let few : x < 2 * 2 ^ (m - 1) = omega arith in
+      let l = le-div-iff-mul-le (pow-pos (m - 1)) .1 some in
+      let h = div-lt-iff-lt-mul (pow-pos (m - 1)) .1 few in omega arith
+
+  -- where its bits are those below e that w has not, the bits of w are set from m up to e, and m is the lowest such place
+  since-length : (w e : ℕ) → x < 2 ^ e → ((k : ℕ) → k < e → bit x k ≡ 1 - bit w k) → SetSince w e m
+  since-length w e fits clear = record {
+    low = omega arith;
+    high = go (decLt 0 m);
+    after = λ k l h. let z = bit-above m x k below l in let n = clear k h in let b : bit w k < 2 = omega arith in omega arith;
+    fails = λ p b. let t = bit-top p in let n = clear (m - 1) (top-within p) in omega arith;
+  }
+    where
+      top-within : 0 < m → m - 1 < e
+      top-within p = bit-within e x (m - 1) fits (bit-top p)
+
+      go : Dec (0 < m) → m ≤ e
+      go (yes p) = let l = top-within p in omega arith
+      go (no g) = omega arith
+
+-- ---- the clear bits of a word below e, as a word
+
+-- the length of that word is what `set_since` answers
+pub since-leading : (w e : ℕ) → w < 65536 → e ≤ 16 → SetSince w e (16 - leadingZeros 16 ((65535 - w) % 2 ^ e))
+since-leading w e h l =
+    let fits = mod-lt (65535 - w) (pow-pos e) in
+    let t = leading-length 16 ((65535 - w) % 2 ^ e) (lt-of-lt-of-le fits (pow-mono l)) in
+    let z : 16 - leadingZeros 16 ((65535 - w) % 2 ^ e) ≡ t .0 = omega arith in
+    rw z
+    (since-length ((65535 - w) % 2 ^ e) (t .0) (t .2) (t .3) w e fits
+    (λ k s. bit-mod (65535 - w) e k s ∙ bit-not 16 w k h (omega arith)))
