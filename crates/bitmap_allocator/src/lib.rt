@@ -128,20 +128,23 @@ pub fn words_for(frames: usize) -> Words
 pub fn cap(tree: &[u16]) -> Counted
     ensures { λ r. ⌜ CapSays (now (tree .entry)) r ⌝ }
 {
-    if !bitmap_tree::is_full(tree.len()) {
+    let w = tree.len();
+    if !bitmap_tree::is_full(w) {
         return Counted::NotFull;
     }
-    Counted::Frames(15 * tree.len() + 1)
+    Counted::Frames(15 * w + 1)
 }
 
 // How many frames are free.
 pub fn count_free(tree: &[u16]) -> Counted
     ensures { λ r. ⌜ CountSays (now (tree .entry)) r ⌝ }
 {
-    if !bitmap_tree::is_full(tree.len()) {
+    let w = tree.len();
+    if !bitmap_tree::is_full(w) {
         return Counted::NotFull;
     }
-    Counted::Frames(bitmap_tree::count(tree))
+    let n = bitmap_tree::count(tree);
+    Counted::Frames(n)
 }
 
 // Whether some frame is free.
@@ -151,7 +154,8 @@ pub fn any(tree: &[u16]) -> SomeFree
     if !bitmap_tree::is_full(tree.len()) {
         return SomeFree::NotFull;
     }
-    if tree[0] == 0 {
+    let root = tree[0];
+    if root == 0 {
         SomeFree::No
     } else {
         SomeFree::Yes
@@ -274,7 +278,8 @@ pub fn dealloc(tree: &mut [u16], k: usize) -> Freed
     if 15 * w < k {
         return Freed::Outside;
     }
-    if bitmap_tree::read(tree, w + k) == 1 {
+    let bit = bitmap_tree::read(tree, w + k);
+    if bit == 1 {
         return Freed::NotTaken;
     }
     bitmap_tree::change_one(tree, k, 1);

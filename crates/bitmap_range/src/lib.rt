@@ -31,9 +31,11 @@ fn paint(tree: &mut [u16], a: usize, b: usize, v: u16)
         bitmap_tree::write(tree, a, b, v);
         return;
     }
-    bitmap_tree::write(tree, a, 16 * p + 1, v);
+    let first = 16 * p + 1;
+    let last = 16 * q + 1;
+    bitmap_tree::write(tree, a, first, v);
     flood(tree, p, q, v);
-    bitmap_tree::write(tree, 16 * q + 1, b, v);
+    bitmap_tree::write(tree, last, b, v);
 }
 
 // Makes the bit of word n say whether the word has a set bit.

@@ -17,8 +17,8 @@ is-full-requires c κs = search needs
 returns : tie.Need-returns
 returns c = refused (c .before .is-full .result) (c .if1 .taken) (c .before .is-full .ensures)
 
-shared-slice-read-if2 : tie.Need-shared-slice-read-if2
-shared-slice-read-if2 c = let f : Full (length (c .before .before .before .before .args .tree .now)) = not-refused (c .before .before .is-full .result) (c .before .if1 .left) (c .before .before .is-full .ensures) in
+shared-slice-read-root : tie.Need-shared-slice-read-root
+shared-slice-read-root c = let f : Full (length (c .before .before .before .before .args .tree .now)) = not-refused (c .before .before .is-full .result) (c .before .if1 .left) (c .before .before .is-full .ensures) in
     let b = full-bound _ f in
     omega arith
 
@@ -34,4 +34,4 @@ returns-3 c = let f : Full (length (c .before .before .before .before .before .a
     (f, c .if2 .left, root-says-some _ f (λ n. c .before .shared-slice-known2 .given n .fits) (c .if2 .left))
 
 pub any-spec : {M : Type 1} → statement M
-any-spec = tie.close (tie.spec is-full-requires returns shared-slice-read-if2 returns-2 returns-3)
+any-spec = tie.close (tie.spec is-full-requires returns shared-slice-read-root returns-2 returns-3)

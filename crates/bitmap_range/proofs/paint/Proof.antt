@@ -20,23 +20,23 @@ same-length c = search needs
 returns : tie.Need-returns
 returns c = search needs
 
-mul-write : tie.Need-mul-write
-mul-write c = search needs
+mul-first : tie.Need-mul-first
+mul-first c = search needs
 
-add-write : tie.Need-add-write
-add-write c = search needs
+add-first : tie.Need-add-first
+add-first c = search needs
+
+mul-last : tie.Need-mul-last
+mul-last c = search needs
+
+add-last : tie.Need-add-last
+add-last c = search needs
 
 write-requires-2 : tie.Need-write-requires-2
 write-requires-2 c κs = search needs
 
 flood-requires : tie.Need-flood-requires
 flood-requires c κs = search needs
-
-mul-write-2 : tie.Need-mul-write-2
-mul-write-2 c = search needs
-
-add-write-2 : tie.Need-add-write-2
-add-write-2 c = search needs
 
 write-requires-3 : tie.Need-write-requires-3
 write-requires-3 c κs = search needs
@@ -60,12 +60,12 @@ paint-spec =
     write-requires
     same-length
     returns
-    mul-write
-    add-write
+    mul-first
+    add-first
+    mul-last
+    add-last
     write-requires-2
     flood-requires
-    mul-write-2
-    add-write-2
     write-requires-3
     same-length-2
     returns-2)

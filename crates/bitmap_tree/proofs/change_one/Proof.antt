@@ -6,7 +6,7 @@ use mathlib.Core.Path.{sym, _∙_}
 use Prim.Native.Nat.{_+_, _-_}
 use native.Mathlib.Omega.{arith}
 use lib.ListN.{length}
-use Rattle.bitmap_tree.proofs.Climb.{Climbing, climb-start, climb-step, climb-kept, climb-done, parent-lt}
+use Rattle.bitmap_tree.proofs.Climb.{Climbing, climb-start, climb-step, climb-stop, climb-done}
 
 abbrev Inv-loop : tie.InvT-loop
 Inv-loop tree₀ k v n₀ u₀ tree n u = Climbing tree₀ tree (length tree₀ + k) v n u
@@ -52,29 +52,19 @@ same-length c = c .before .before .before .before .before .write .ensures .long 
 
 returns : tie.Need-returns Inv-loop μ-loop
 returns c =
-    let s = c .before .before .before .before .before .before .before .before .before .before .before .before .args in
     let p = c .before .before .before .before .before .before .before .before .before .before .before .before .pre in
     let l = c .before .before .before .before .before .before .before .before .before .before .loop in
-    let t₀ = s .tree .now in
-    let t′ = c .before .before .before .before .before .write .last .0 in
-    let j = length t₀ + s .k in
-    let step = climb-step t₀ (l .tree) t′ j (s .v) (l .n) (l .u) (omega arith) (omega arith) (c .before .before .before .before .before .before .before .before .before .loop-test .taken) (l .inv) (c .before .before .before .before .before .write .ensures) in
-    let lt = parent-lt t₀ (l .tree) t′ j (s .v) (l .n) (l .u) (omega arith) (omega arith) (c .before .before .before .before .before .before .before .before .before .loop-test .taken) (l .inv) (c .before .before .before .before .before .write .ensures) in
-    let kept = climb-kept t₀ (l .tree) t′ j (s .v) (l .n) (l .u) (omega arith) (omega arith) (c .before .before .before .before .before .before .before .before .before .loop-test .taken) (l .inv) (c .before .before .before .before .before .write .ensures) in
-    climb-done t₀ t′ (s .k) (s .v) _ _ step lt (kept (sym (c .before .before .before .before .before .before .before .some .ensures) ∙ c .if1 .taken ∙ c .before .some2 .ensures))
+    climb-stop _ (l .tree) _ _ _ (l .n) (l .u) (p .1) (p .0) (c .before .before .before .before .before .before .before .before .before .loop-test .taken) (l .inv) (c .before .before .before .before .before .write .ensures)
+    (sym (c .before .before .before .before .before .before .before .some .ensures) ∙ c .if1 .taken ∙ c .before .some2 .ensures)
 
 loop-less : tie.Need-loop-less Inv-loop μ-loop
 loop-less c = search needs
 
 loop-again : tie.Need-loop-again Inv-loop μ-loop
 loop-again c =
-    let s = c .before .before .before .before .before .before .before .before .before .before .before .before .args in
     let p = c .before .before .before .before .before .before .before .before .before .before .before .before .pre in
     let l = c .before .before .before .before .before .before .before .before .before .before .loop in
-    let t₀ = s .tree .now in
-    let t′ = c .before .before .before .before .before .write .last .0 in
-    let j = length t₀ + s .k in
-    rw (c .before .some2 .ensures) (climb-step t₀ (l .tree) t′ j (s .v) (l .n) (l .u) (omega arith) (omega arith) (c .before .before .before .before .before .before .before .before .before .loop-test .taken) (l .inv) (c .before .before .before .before .before .write .ensures))
+    climb-step _ (l .tree) _ _ _ (l .n) (l .u) (p .1) (p .0) (c .before .before .before .before .before .before .before .before .before .loop-test .taken) (l .inv) (c .before .before .before .before .before .write .ensures) _ (c .before .some2 .ensures)
 
 same-length-2 : tie.Need-same-length-2 Inv-loop μ-loop
 same-length-2 c = c .before .loop .inv .long
