@@ -1,0 +1,12 @@
+-- From an answer that is known to its code and its value. Assumes nothing.
+use mathlib.Core.Path.{_≡_, sym, ap}
+use Prim.Native.Nat.{ℕ}
+use Rattle.replayframes.specs.Codes.{Coded, Valued}
+
+-- the code of an answer that turned out to be y
+pub coded : {A : Type 0} (Says : A → Type 0) (code : A → ℕ) {x y : A} → Says x → x ≡ y → Coded Says code (code y)
+coded Says code {x} s e = record { answer = x; says = s; is = sym (ap code e) }
+
+-- its code and its value
+pub valued : {A : Type 0} (Says : A → Type 0) (code : A → ℕ) (value : A → ℕ → ℕ) (old : ℕ) {x y : A} → Says x → x ≡ y → Valued Says code value old (value y old) (code y)
+valued {A} Says code value old {x} s e = record { answer = x; says = s; is = sym (ap code e); wrote = sym (ap (λ (z : A). value z old) e) }

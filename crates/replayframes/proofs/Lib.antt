@@ -1,0 +1,2 @@
+-- The law of codes.
+pub mod Codes
