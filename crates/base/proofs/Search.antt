@@ -1,7 +1,7 @@
 -- The laws of the two searches: each statement determines its answer. Assumes nothing.
 use mathlib.Core.Path.{_≡_}
-use Prim.Native.Nat.{ℕ, _-_, _<_}
-use native.Mathlib.Decide.{decLt}
+use Prim.Native.Nat.{ℕ, _+_, _-_, _≤_, _<_}
+use native.Mathlib.Decide.{decLt, ℕ-discrete}
 use native.Mathlib.Omega.{arith}
 use Rattle.base.specs.Search.{Stops, Since}
 
@@ -35,3 +35,11 @@ since-once {r = r} {s = s} x y = go (decLt r s) (decLt s r)
     go (yes l) d = absurd (no-lower x y l)
     go (no g) (yes l) = absurd (no-lower y x l)
     go (no g) (no h) = omega arith
+
+-- one number further down
+pub above-more : {P : ℕ → Type 0} (n m b : ℕ) → ((k : ℕ) → n ≤ k → k < b → P k) → m + 1 ≡ n → P m → (k : ℕ) → m ≤ k → k < b → P k
+above-more {P} n m b above e here k l h = go (ℕ-discrete k m)
+  where
+    go : Dec (k ≡ m) → P k
+    go (yes q) = rw q here
+    go (no d) = above k (omega (arith, d)) h

@@ -7,7 +7,7 @@ use lib.ListN.{length, getD}
 use Rattle.bitmap_tree.specs.Tree.{free, cap, Full, Agree}
 use Rattle.bitmap_tree.specs.Writes.{Changed}
 use Rattle.bitmap_search.specs.Found.{NoneFrom}
-use Rattle.bitmap_search.specs.Runs.{Run, LowestRun}
+use Rattle.bitmap_runs.specs.Runs.{Run, LowestRun}
 use Rattle.bitmap_allocator.specs.declared.Wiped.{Wiped}
 use Rattle.bitmap_allocator.specs.declared.Allocated.{Allocated}
 use Rattle.bitmap_allocator.specs.declared.RunTaken.{RunTaken}

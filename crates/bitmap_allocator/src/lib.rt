@@ -8,9 +8,9 @@
 ghost use Prim.Native.Nat.{_<_};
 ghost use Rattle.bitmap_allocator.specs.Looks.{CapSays, CountSays, AnySays, TestSays, NextSays, CheckSays, WordsSays};
 ghost use Rattle.bitmap_allocator.specs.Changes.{ResetSays, AllocSays, RunSays, DeallocSays, RangeSays};
+use bitmap_runs::Searched;
 use bitmap_search::Down;
 use bitmap_search::Next;
-use bitmap_search::Searched;
 
 // How many words a tree has.
 pub enum Words {
@@ -257,7 +257,7 @@ pub fn alloc_contiguous(tree: &mut [u16], size: usize, align_log2: usize) -> Run
     if size == 0 {
         return RunTaken::Empty;
     }
-    match bitmap_search::find_run(tree, size, align_log2) {
+    match bitmap_runs::find_run(tree, size, align_log2) {
         Searched::Nowhere => RunTaken::NoRoom,
         Searched::Corrupt => RunTaken::Corrupt,
         Searched::At(s) => {

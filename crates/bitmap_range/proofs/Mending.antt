@@ -4,11 +4,11 @@ use mathlib.Core.List.{List}
 use Prim.Native.Nat.{ℕ, _+_, _-_, _/_, _≤_, _<_, min, max}
 use native.Mathlib.Decide.{decLe}
 use native.Mathlib.Omega.{arith}
-use lib.ListN.{length}
+use lib.ListN.{length, getD}
 use Rattle.base.specs.Ranges.{Outside}
-use Rattle.bitmap_tree.specs.Tree.{nodeBit, cap, summarised, Agree}
-use Rattle.bitmap_tree.specs.Writes.{Painted, Changed}
-use Rattle.bitmap_range.specs.Levels.{Between, Noted, AgreeBut, Mended}
+use Rattle.bitmap_tree.specs.Tree.{nodeBit, cap, summarised, Agree, AgreeBut}
+use Rattle.bitmap_tree.specs.Writes.{Painted, Climbed, Changed}
+use Rattle.bitmap_range.specs.Levels.{Between, Noted, Mended}
 
 -- on the way up: t₀ has become t, only the words from a to b may not be summarised, and those between the two are all v
 pub record Mending (t₀ : List ℕ) (lo hi : ℕ) (t : List ℕ) (a b v : ℕ) : Type 0 where
@@ -51,14 +51,30 @@ mend-step t₀ t t′ lo hi a b v f eq pos c n =
     agree e m p l ne (yes x) (no y) = kept e m p l ne (λ u w. omega arith)
     agree e m p l ne (no x) y = kept e m p l ne (λ u w. omega arith)
 
--- the root is reached
-pub mend-done : (t₀ t : List ℕ) (lo hi a b v : ℕ) → b ≡ 0 → Mending t₀ lo hi t a b v → Mended t₀ lo hi t
-unfolding AgreeBut Agree
-mend-done t₀ t lo hi a b v z c = record {
+-- one word is left, whose summary is mended by a climb
+pub settled : (t t′ : List ℕ) (n v : ℕ) → n < length t → v ≡ min 1 (getD t n 0) → Climbed t n v t′ → Mended t n n t′
+settled t t′ n v l e c = record {
   long = c .long;
-  frames = c .frames;
-  agree = λ e m p l. c .agree e m p l (λ x y. omega arith);
+  frames = λ k x. c .there k x (λ q. omega arith);
+  agree = λ a. c .agree a (λ _. sym e);
 }
+
+-- the root needs no summary
+pub settled-root : (t : List ℕ) → Mended t 0 0 t
+unfolding Agree AgreeBut
+settled-root t = record { long = refl; frames = λ k x. refl; agree = λ a n p l. a n p l (λ x y. omega arith) }
+
+-- the rows below are mended, and then the one word that is left
+pub mend-done : (t₀ t t′ : List ℕ) (lo hi a b v : ℕ) → b ≤ a → Mending t₀ lo hi t a b v → Mended t b b t′ → Mended t₀ lo hi t′
+mend-done t₀ t t′ lo hi a b v z c m =
+    let o = c .order in
+    let e : a ≡ b = omega arith in
+    let l = c .long in
+    record {
+      long = m .long ∙ c .long;
+      frames = λ k x. m .frames k (omega arith) ∙ c .frames k x;
+      agree = λ g. m .agree (rw e at (c .agree g));
+    }
 
 module _ (t t′ : List ℕ) (a b v : ℕ) (some : 0 < length t) (order : a < b) (top : b ≤ cap t) (p : Painted t (length t + a) (length t + b) v t′) where
   -- the words that the frames' bits stand in, but for the two at the ends, are all v

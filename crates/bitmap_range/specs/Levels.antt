@@ -4,7 +4,7 @@ use mathlib.Core.List.{List}
 use Prim.Native.Nat.{ℕ, _+_, _-_, _/_, _<_, _≤_, min}
 use lib.ListN.{length, getD}
 use Rattle.base.specs.Ranges.{Outside}
-use Rattle.bitmap_tree.specs.Tree.{nodeBit, summarised, Agree}
+use Rattle.bitmap_tree.specs.Tree.{nodeBit, summarised, Agree, AgreeBut}
 
 -- each word between a and b, these two left out, has a set bit if v is 1, and none if v is 0
 unfoldable pub Between : List ℕ → ℕ → ℕ → ℕ → Type 0
@@ -17,10 +17,6 @@ pub record Noted (t : List ℕ) (f b v : ℕ) (t′ : List ℕ) : Type 0 where
   pub words : (n : ℕ) → Outside ((f - 1) / 16) ((b - 1) / 16 + 1) n → getD t′ n 0 ≡ getD t n 0
   pub done : (n : ℕ) → f ≤ n → n ≤ b → Outside ((f - 1) / 16) ((b - 1) / 16 + 1) n → summarised t′ n
   pub between : Between t′ ((f - 1) / 16) ((b - 1) / 16) v
-
--- each word but the root and those from a to b is summarised
-unfoldable pub AgreeBut : List ℕ → ℕ → ℕ → Type 0
-AgreeBut t a b = (n : ℕ) → 0 < n → n < length t → Outside a (b + 1) n → summarised t n
 
 -- no frame changed from t to t′, and where only the words from a to b were not summarised, all are
 pub record Mended (t : List ℕ) (a b : ℕ) (t′ : List ℕ) : Type 0 where

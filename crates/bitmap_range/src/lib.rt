@@ -60,7 +60,19 @@ fn note_level(tree: &mut [u16], f: usize, b: usize, v: u16)
     }
 }
 
-// Mends the summaries, where only those of the words from lo to hi may be wrong.
+// Mends the summaries, where only that of word n may be wrong.
+fn settle(tree: &mut [u16], n: usize)
+    requires { ⌜ (n < length (now tree)) × (length (now tree) < 2 ^ 57) ⌝ }
+    ensures { λ _. ⌜ Mended (now (tree .entry)) n n (now (tree .exit)) ⌝ }
+{
+    if 0 < n {
+        let s = bits16::some(tree[n]);
+        bitmap_tree::climb(tree, n, s);
+    }
+}
+
+// Mends the summaries, where only those of the words from lo to hi may be wrong: row by row until one
+// word is left.
 fn mend(tree: &mut [u16], lo: usize, hi: usize, v: u16)
     requires { ⌜ (lo ≤ hi) × (hi < length (now tree)) ⌝ }
     requires { ⌜ (length (now tree) < 2 ^ 57) × (v < 2) × Between (now tree) lo hi v ⌝ }
@@ -68,12 +80,13 @@ fn mend(tree: &mut [u16], lo: usize, hi: usize, v: u16)
 {
     let mut a = lo;
     let mut b = hi;
-    while b > 0 {
+    while a < b {
         let f = base::most(a, 1);
         note_level(tree, f, b, v);
         a = (f - 1) / 16;
         b = (b - 1) / 16;
     }
+    settle(tree, b);
 }
 
 // Makes the frames from a up to b free, where v is 1, or taken, where v is 0, whatever they were.

@@ -1,5 +1,4 @@
--- The laws of the searches: heights (`Heights`), the way down (`Descent`), the way up and down again (`Rise`), and runs (`Runs`).
+-- The laws of the search: heights (`Heights`), the way down (`Descent`), and the way up and down again (`Rise`).
 pub mod Heights
 pub mod Descent
 pub mod Rise
-pub mod Runs

@@ -4,6 +4,7 @@ use mathlib.Core.Path.{_≡_}
 use mathlib.Core.List.{List}
 use Prim.Native.Nat.{ℕ, _+_, _-_, _*_, _/_, _%_, _^_, _<_, _≤_, min}
 use lib.ListN.{length, getD}
+use Rattle.base.specs.Ranges.{Outside}
 use Rattle.bits16.specs.Bits.{bit}
 
 -- the bit of node j, of 1 and more
@@ -32,3 +33,7 @@ summarised t n = nodeBit t n ≡ min 1 (getD t n 0)
 -- the summaries agree: each word but the root is summarised
 unfoldable pub Agree : List ℕ → Type 0
 Agree t = (n : ℕ) → 0 < n → n < length t → summarised t n
+
+-- each word but the root and those from a to b is summarised
+unfoldable pub AgreeBut : List ℕ → ℕ → ℕ → Type 0
+AgreeBut t a b = (n : ℕ) → 0 < n → n < length t → Outside a (b + 1) n → summarised t n

@@ -8,7 +8,7 @@ ghost use Rattle.base.specs.Ranges.{howMany};
 ghost use Rattle.base.specs.Says.{Says};
 ghost use Rattle.base.specs.Search.{Stops};
 ghost use Rattle.bitmap_tree.specs.Tree.{nodeBit, free, cap, Full, summarised};
-ghost use Rattle.bitmap_tree.specs.Writes.{Painted, Changed};
+ghost use Rattle.bitmap_tree.specs.Writes.{Painted, Climbed, Changed};
 
 // Whether w words make a full tree.
 pub fn is_full(w: usize) -> bool
@@ -46,13 +46,13 @@ pub fn write(tree: &mut [u16], j: usize, e: usize, v: u16)
     }
 }
 
-// Makes frame k free, where v is 1, or taken, where v is 0: writes its bit, and goes on upwards for as
-// long as that changes what the word's summary should be.
-pub fn change_one(tree: &mut [u16], k: usize, v: u16)
-    requires { ⌜ (k ≤ 15 * length (now tree)) × (0 < length (now tree)) × (length (now tree) < 2 ^ 57) × (v < 2) ⌝ }
-    ensures { λ _. ⌜ Changed (now (tree .entry)) k (k + 1) v (now (tree .exit)) ⌝ }
+// Gives v to the bit of node j, and goes on upwards for as long as that changes what the word's summary
+// should be.
+pub fn climb(tree: &mut [u16], j: usize, v: u16)
+    requires { ⌜ (0 < j) × (j ≤ 16 * length (now tree)) × (length (now tree) < 2 ^ 57) × (v < 2) ⌝ }
+    ensures { λ _. ⌜ Climbed (now (tree .entry)) j v (now (tree .exit)) ⌝ }
 {
-    let mut n = tree.len() + k;
+    let mut n = j;
     let mut u = v;
     while n > 0 {
         let p = (n - 1) / 16;
@@ -65,6 +65,15 @@ pub fn change_one(tree: &mut [u16], k: usize, v: u16)
         n = p;
         u = new;
     }
+}
+
+// Makes frame k free, where v is 1, or taken, where v is 0.
+pub fn change_one(tree: &mut [u16], k: usize, v: u16)
+    requires { ⌜ (k ≤ 15 * length (now tree)) × (0 < length (now tree)) × (length (now tree) < 2 ^ 57) × (v < 2) ⌝ }
+    ensures { λ _. ⌜ Changed (now (tree .entry)) k (k + 1) v (now (tree .exit)) ⌝ }
+{
+    let w = tree.len();
+    climb(tree, w + k, v);
 }
 
 // The lowest word but the root whose summary does not tell whether it is 0, or the number of words.

@@ -4,13 +4,14 @@ use Prim.Native.Nat.{ℕ, zero, suc, _+_, _-_, _*_, _/_, _%_, _^_, _≤_, _<_}
 use native.Mathlib.Nat.{pow-succ', mod-lt, lt-of-lt-of-le, le-div-iff-mul-le, div-lt-iff-lt-mul}
 use native.Mathlib.Decide.{decLt}
 use native.Mathlib.Omega.{arith}
+use lib.Dec.{lit<}
 use lib.Pow.{pow-pos, pow-mono, field, mod-mod-pow}
 use lib.Count.{leadingZeros, leading-length}
 use Rattle.bits16.specs.Bits.{bit, SetSince}
-use Rattle.bits16.proofs.Laws.{bit-zero, bit-suc, bit-above, bit-within}
+use Rattle.bits16.proofs.Laws.{bit-zero, bit-suc, bit-of-zero, bit-above, bit-within}
 
 -- the lowest e bits of a word are kept by `% 2 ^ e`
-bit-mod : (w e k : ℕ) → k < e → bit (w % 2 ^ e) k ≡ bit w k
+pub bit-mod : (w e k : ℕ) → k < e → bit (w % 2 ^ e) k ≡ bit w k
 bit-mod w e k h =
     let z : e ≡ (e - 1 - k + 1) + k = omega arith in
     ap (λ (x : ℕ). bit (w % 2 ^ x) k) z ∙ ap (λ (x : ℕ). x % 2) (field w (e - 1 - k + 1) k) ∙ mod-mod-pow (w / 2 ^ k) (e - 1 - k) 1
@@ -26,6 +27,10 @@ bit-not (suc n) w (suc k) h l =
     let half : (2 ^ suc n - 1 - w) / 2 ≡ 2 ^ n - 1 - w / 2 = rw (pow-succ' 2 n) (omega arith) in
     bit-suc (2 ^ suc n - 1 - w) k ∙ ap (λ (x : ℕ). bit x k) half ∙ bit-not n (w / 2) k (omega arith) (omega arith)
     ∙ ap (λ (x : ℕ). 1 - x) (sym (bit-suc w k))
+
+-- every bit of a full word is set
+pub full-bit : (k : ℕ) → k < 16 → bit 65535 k ≡ 1
+full-bit k h = bit-not 16 0 k (lit< tt) h ∙ ap (λ (x : ℕ). 1 - x) (bit-of-zero k)
 
 -- ---- a word x that is m bits long
 

@@ -2,3 +2,4 @@
 pub mod Laws
 pub mod Masks
 pub mod Lengths
+pub mod Doubling

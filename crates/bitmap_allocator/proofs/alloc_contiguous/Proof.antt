@@ -9,7 +9,7 @@ use Rattle.base.proofs.Says.{told, refused, not-refused}
 use lib.ListN.{length}
 use Rattle.bitmap_tree.specs.Tree.{Full}
 use Rattle.bitmap_tree.proofs.Fullness.{full-bound}
-use Rattle.bitmap_search.specs.Runs.{SearchSays}
+use Rattle.bitmap_runs.specs.Runs.{SearchSays}
 
 is-full-requires : tie.Need-is-full-requires
 is-full-requires c κs = search needs

@@ -2,6 +2,7 @@
 use borrow.Author.Needs.{needs}
 use Rattle.bitmap_range.proofs.mend.Statement.{statement}
 use Rattle.bitmap_range.proofs.mend.Tie as tie
+use mathlib.Core.Path.{_∙_}
 use native.Mathlib.Omega.{arith}
 use Rattle.bitmap_range.proofs.Mending.{Mending, mend-start, between-less, mend-step, mend-done}
 
@@ -22,7 +23,6 @@ note-level-requires c κs =
     let p = c .before .before .before .before .before .pre in
     let l = c .before .before .before .loop in
     let e = c .before .most .ensures in
-    let o = l .inv .order in
     let w = l .inv .within in
     let g = l .inv .long in
     ((omega arith, omega arith, omega arith), (omega arith, p .1 .1, between-less _ (l .a) _ (l .b) _ (omega arith) (l .inv .between)))
@@ -34,18 +34,21 @@ sub-b : tie.Need-sub-b Inv-loop μ-loop
 sub-b c = omega arith
 
 loop-less : tie.Need-loop-less Inv-loop μ-loop
-loop-less c = search needs
+loop-less c = omega arith
 
 loop-again : tie.Need-loop-again Inv-loop μ-loop
 loop-again c =
     let l = c .before .before .before .before .before .before .loop in
-    mend-step _ _ _ _ _ (l .a) (l .b) _ _ (c .before .before .before .before .most .ensures) (c .before .before .before .before .before .loop-test .taken) (l .inv) (c .before .before .note-level .ensures)
+    mend-step _ _ _ _ _ (l .a) (l .b) _ _ (c .before .before .before .before .most .ensures) (omega arith) (l .inv) (c .before .before .note-level .ensures)
+
+settle-requires : tie.Need-settle-requires Inv-loop μ-loop
+settle-requires c κs = let p = c .before .before .before .before .pre in let w = c .before .before .loop .inv .within in let g = c .before .before .loop .inv .long in omega arith
 
 same-length : tie.Need-same-length Inv-loop μ-loop
-same-length c = c .before .loop .inv .long
+same-length c = c .before .before .settle .ensures .long ∙ c .before .before .before .before .before .loop .inv .long
 
 returns : tie.Need-returns Inv-loop μ-loop
-returns c = mend-done _ _ _ _ _ _ _ (omega arith) (c .before .loop .inv)
+returns c = mend-done _ _ _ _ _ (c .before .before .before .before .before .loop .a) (c .before .before .before .before .before .loop .b) _ (c .before .before .before .before .loop-test .left) (c .before .before .before .before .before .loop .inv) (c .before .before .settle .ensures)
 
 pub mend-spec : {M : Type 1} → statement M
 mend-spec =
@@ -60,5 +63,6 @@ mend-spec =
     sub-b
     loop-less
     loop-again
+    settle-requires
     same-length
     returns)

@@ -1,23 +1,22 @@
--- `bitmap_search::find_run` meets its contract. The invariant of its loop is `Searching`; the measure is what is left of the frames. Assumes nothing.
+-- `bitmap_runs::find_long` meets its contract. The invariant of its loop is `Searching`; the measure is what is left of the frames. Assumes nothing.
 use borrow.Author.Needs.{needs}
-use Rattle.bitmap_search.proofs.find_run.Statement.{statement}
-use Rattle.bitmap_search.proofs.find_run.Tie as tie
-use Prim.Native.Nat.{_-_, min}
+use Rattle.bitmap_runs.proofs.find_long.Statement.{statement}
+use Rattle.bitmap_runs.proofs.find_long.Tie as tie
+use Prim.Native.Nat.{_-_}
 use native.Mathlib.Omega.{arith}
-use Rattle.base.proofs.Says.{told}
-use lib.Pow.{pow-pos, pow-mono}
 use Rattle.bitmap_tree.proofs.Fullness.{full-bound}
 use Rattle.bitmap_search.specs.Found.{NextSays}
-use Rattle.bitmap_search.proofs.Runs.{Searching, search-start, search-none, too-far, found-run, search-step, search-end}
+use Rattle.bitmap_runs.proofs.Windows.{Searching, search-start, search-none, too-far, found-run, search-step, search-end}
+use Rattle.base.proofs.Says.{told}
 
 abbrev Inv-loop : tie.InvT-loop
-Inv-loop tree n a w al cap k₀ k = Searching tree n a k
+Inv-loop tree n a w e cap k₀ k = Searching tree n a k
 
 abbrev μ-loop : tie.MeasureT-loop
-μ-loop tree n a w al cap k₀ k = cap - k
+μ-loop tree n a w e cap k₀ k = cap - k
 
-alignment-requires : tie.Need-alignment-requires Inv-loop μ-loop
-alignment-requires c κs = search needs
+least-requires : tie.Need-least-requires Inv-loop μ-loop
+least-requires c κs = search needs
 
 mul-cap : tie.Need-mul-cap Inv-loop μ-loop
 mul-cap c = let b = full-bound _ (c .before .before .pre .0) in omega arith
@@ -46,28 +45,23 @@ returns-2 c = told (NextSays _ _) (c .enum-told2 .given .1) (c .before .before .
 enum-known-f : tie.Need-enum-known-f Inv-loop μ-loop
 enum-known-f c = search needs
 
-gap-requires : tie.Need-gap-requires Inv-loop μ-loop
-gap-requires c κs = rw (c .before .before .before .before .before .before .alignment .ensures) (pow-pos (min (c .before .before .before .before .before .before .before .before .args .a) 60))
-
-add-s : tie.Need-add-s Inv-loop μ-loop
-add-s c =
-    let b = full-bound _ (c .before .before .before .before .before .before .before .before .before .pre .0) in
-    let nx = told (NextSays _ _) (c .before .before .f .given .1) (c .before .before .before .before .next-from .ensures) in
+round-up-requires : tie.Need-round-up-requires Inv-loop μ-loop
+round-up-requires c κs =
+    let b = full-bound _ (c .before .before .before .before .before .before .before .before .pre .0) in
+    let nx = told (NextSays _ _) (c .before .f .given .1) (c .before .before .before .next-from .ensures) in
     let w = nx .within in
-    let s = c .gap .ensures .small in
-    let e = c .before .before .before .before .before .before .before .alignment .ensures in
-    let m = pow-mono {i = min (c .before .before .before .before .before .before .before .before .before .args .a) 60} {j = 60} (omega arith) in
+    let e = c .before .before .before .before .before .before .least .ensures in
     omega arith
 
 returns-3 : tie.Need-returns-3 Inv-loop μ-loop
 returns-3 c =
-    let rd = rw (c .before .before .before .before .before .before .before .before .alignment .ensures) at (c .before .gap .ensures) in
+    let rd = rw (c .before .before .before .before .before .before .before .before .least .ensures) at (c .before .round-up .ensures) in
     let nx = told (NextSays _ _) (c .before .before .before .f .given .1) (c .before .before .before .before .before .next-from .ensures) in
     too-far _ _ _ (c .before .before .before .before .before .before .before .loop .k) _ _ (c .before .before .before .before .before .before .before .before .before .before .pre .0) (c .before .before .before .before .before .before .before .before .before .before .pre .1) (c .before .before .before .before .before .before .before .loop .inv) rd nx (omega (arith, c .if1 .taken))
 
 returns-4 : tie.Need-returns-4 Inv-loop μ-loop
 returns-4 c =
-    let rd = rw (c .before .before .before .before .before .before .before .before .before .alignment .ensures) at (c .before .before .gap .ensures) in
+    let rd = rw (c .before .before .before .before .before .before .before .before .before .least .ensures) at (c .before .before .round-up .ensures) in
     let nx = told (NextSays _ _) (c .before .before .before .before .f .given .1) (c .before .before .before .before .before .before .next-from .ensures) in
     too-far _ _ _ (c .before .before .before .before .before .before .before .before .loop .k) _ _ (c .before .before .before .before .before .before .before .before .before .before .before .pre .0) (c .before .before .before .before .before .before .before .before .before .before .before .pre .1) (c .before .before .before .before .before .before .before .before .loop .inv) rd nx (omega (arith, c .before .if1 .left, c .if2 .taken))
 
@@ -88,7 +82,7 @@ sub-r c = let l = c .set-since .ensures .low in omega arith
 
 returns-5 : tie.Need-returns-5 Inv-loop μ-loop
 returns-5 c =
-    let rd = rw (c .before .before .before .before .before .before .before .before .before .before .before .alignment .ensures) at (c .before .before .before .before .gap .ensures) in
+    let rd = rw (c .before .before .before .before .before .before .before .before .before .before .before .least .ensures) at (c .before .before .before .before .round-up .ensures) in
     let nx = told (NextSays _ _) (c .before .before .before .before .before .before .f .given .1) (c .before .before .before .before .before .before .before .before .next-from .ensures) in
     found-run _ _ _ (c .before .before .before .before .before .before .before .before .before .before .loop .k) _ _ (c .before .before .before .before .before .before .before .before .before .before .before .before .before .pre .0) (c .before .before .before .before .before .before .before .before .before .before .before .before .before .pre .1) (c .before .before .before .before .before .before .before .before .before .before .loop .inv) rd nx (omega (arith, c .before .before .before .if1 .left, c .before .before .if2 .left)) _ (c .before .set-since .ensures) (c .if3 .taken)
 
@@ -96,26 +90,27 @@ loop-less : tie.Need-loop-less Inv-loop μ-loop
 loop-less c =
     let nx = told (NextSays _ _) (c .before .before .before .before .before .before .f .given .1) (c .before .before .before .before .before .before .before .before .next-from .ensures) in
     let g = nx .from in
+    let o = c .before .before .before .before .round-up .ensures .low in
     let l = c .before .set-since .ensures .low in
     let h = c .before .set-since .ensures .high in
     omega (arith, c .before .before .before .if1 .left, c .before .before .if2 .left, c .if3 .left)
 
 loop-again : tie.Need-loop-again Inv-loop μ-loop
 loop-again c =
-    let rd = rw (c .before .before .before .before .before .before .before .before .before .before .before .alignment .ensures) at (c .before .before .before .before .gap .ensures) in
+    let rd = rw (c .before .before .before .before .before .before .before .before .before .before .before .least .ensures) at (c .before .before .before .before .round-up .ensures) in
     let nx = told (NextSays _ _) (c .before .before .before .before .before .before .f .given .1) (c .before .before .before .before .before .before .before .before .next-from .ensures) in
     search-step _ _ _ (c .before .before .before .before .before .before .before .before .before .before .loop .k) _ _ (c .before .before .before .before .before .before .before .before .before .before .before .before .before .pre .0) (c .before .before .before .before .before .before .before .before .before .before .before .before .before .pre .1) (c .before .before .before .before .before .before .before .before .before .before .loop .inv) rd nx (omega (arith, c .before .before .before .if1 .left, c .before .before .if2 .left)) _ (c .before .set-since .ensures) (c .if3 .left)
 
 returns-6 : tie.Need-returns-6 Inv-loop μ-loop
 returns-6 c = search-end _ _ _ (c .before .loop .k) (c .before .before .before .before .pre .1) (c .loop-test .left) (c .before .loop .inv)
 
-pub find-run-spec : {M : Type 1} → statement M
-find-run-spec =
+pub find-long-spec : {M : Type 1} → statement M
+find-long-spec =
     tie.close
     (tie.spec
     Inv-loop
     μ-loop
-    alignment-requires
+    least-requires
     mul-cap
     add-cap
     loop-holds
@@ -125,8 +120,7 @@ find-run-spec =
     enum-told-2
     returns-2
     enum-known-f
-    gap-requires
-    add-s
+    round-up-requires
     returns-3
     returns-4
     add-set-since

@@ -3,8 +3,7 @@ use mathlib.Core.Path.{_≡_}
 use mathlib.Core.List.{List}
 use Prim.Native.Nat.{ℕ, _+_, _%_, _^_, _<_, _≤_}
 use Rattle.bitmap_tree.specs.Tree.{free, cap, Agree}
-use Rattle.bitmap_search.specs.declared.Searched.{Searched}
-use Rattle.bitmap_search.specs.declared.Searched.the-variants.{At, Nowhere, Corrupt}
+use Rattle.bitmap_runs.specs.declared.Searched.{Searched}
 
 -- the n frames from base on are free, and base is a multiple of 2 ^ a
 pub record Run (t : List ℕ) (n a base : ℕ) : Type 0 where
@@ -17,13 +16,14 @@ pub record LowestRun (t : List ℕ) (n a base : ℕ) : Type 0 where
   pub run : Run t n a base
   pub lowest : Agree t → (x : ℕ) → Run t n a x → base ≤ x
 
--- f + u is the lowest multiple of al that is not below f, and u is less than al
-pub record Rounded (f al u : ℕ) : Type 0 where
-  pub aligned : (f + u) % al ≡ 0
-  pub least : (x : ℕ) → f ≤ x → x % al ≡ 0 → f + u ≤ x
-  pub small : u < al
+-- s is the lowest multiple of al that is not below f
+pub record Rounded (f al s : ℕ) : Type 0 where
+  pub low : f ≤ s
+  pub small : s < f + al
+  pub aligned : s % al ≡ 0
+  pub least : (x : ℕ) → f ≤ x → x % al ≡ 0 → s ≤ x
 
 abbrev pub SearchSays : List ℕ → ℕ → ℕ → Searched → Type 0
-SearchSays t n a (At s) = LowestRun t n a s
-SearchSays t n a Nowhere = Agree t → (x : ℕ) → Run t n a x → ⊥
-SearchSays t n a Corrupt = Agree t → ⊥
+SearchSays t n a (Searched.At s) = LowestRun t n a s
+SearchSays t n a Searched.Nowhere = Agree t → (x : ℕ) → Run t n a x → ⊥
+SearchSays t n a Searched.Corrupt = Agree t → ⊥
