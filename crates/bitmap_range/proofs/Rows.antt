@@ -1,31 +1,43 @@
 -- Words painted whole, and the words of one row summarised. Assumes nothing.
-use mathlib.Core.Path.{_≡_, sym, ap, _∙_}
+use mathlib.Core.Path.{_≡_, refl, sym, ap, _∙_}
 use mathlib.Core.List.{List}
 use Prim.Native.Nat.{ℕ, _+_, _-_, _*_, _/_, _%_, _≤_, _<_, min}
 use native.Mathlib.Decide.{ℕ-discrete}
 use native.Mathlib.Omega.{arith}
-use lib.ListN.{length, getD, set}
+use lib.ListN.{length, getD, set, length-set}
+use lib.Seq.{getD-set-same, getD-set-other}
 use Rattle.base.specs.Ranges.{Outside}
-use Rattle.bits16.specs.Bits.{Filled}
+use Rattle.bits16.specs.Bits.{bit}
 use Rattle.bitmap_tree.specs.Tree.{summarised}
 use Rattle.bitmap_tree.specs.Writes.{Painted}
-use Rattle.bitmap_tree.proofs.Writes.{painted-word, painted-join}
-use Rattle.bitmap_range.specs.Levels.{Between, Noted}
+use Rattle.bitmap_tree.proofs.Nodes.{bit-in}
+use Rattle.bitmap_range.specs.Levels.{Stored, Between, Noted}
 
--- one word more, whole
-pub painted-next : (t t′ : List ℕ) (p n v r : ℕ) → p ≤ n → n < length t′ → v < 2 → Painted t (16 * p + 1) (16 * n + 1) v t′
-    → Filled (getD t′ n 0) 0 16 v r → Painted t (16 * p + 1) (16 * (n + 1) + 1) v (set t′ n r)
-painted-next t t′ p n v r l inb two x f = painted-join t t′ (set t′ n r) (16 * p + 1) n (16 * (n + 1) + 1) v (omega arith) (omega arith) (omega arith) x (rw (← q) word)
+-- one word more
+pub stored-next : (t t′ : List ℕ) (p n x : ℕ) → p ≤ n → n < length t′ → Stored t p n x t′ → Stored t p (n + 1) x (set t′ n x)
+stored-next t t′ p n x l inb s = record {
+  long = length-set t′ n x ∙ s .long;
+  inside = λ m g h. inside m g h (ℕ-discrete m n);
+  outside = λ m o. getD-set-other t′ n m x 0 (λ e. o (omega arith) (omega arith)) ∙ s .outside m (λ g h. o g (omega arith));
+}
   where
-    q : 16 * n + 17 ≡ 16 * (n + 1) + 1
-    q = omega arith
+    inside : (m : ℕ) → p ≤ m → m < n + 1 → Dec (m ≡ n) → getD (set t′ n x) m 0 ≡ x
+    inside m g h (yes e) = rw e (getD-set-same t′ n x 0 inb)
+    inside m g h (no d) = getD-set-other t′ n m x 0 d ∙ s .inside m g (omega (arith, d))
 
-    word : Painted t′ (16 * n + 1) (16 * n + 17) v (set t′ n r)
-    word =
-        let a : (16 * n + 1 - 1) / 16 ≡ n = omega arith in
-        let b : (16 * n + 1 - 1) % 16 ≡ 0 = omega arith in
-        let e : 16 * n + 17 - 1 - 16 * n ≡ 16 = omega arith in
-        rw a at (painted-word t′ (16 * n + 1) (16 * n + 17) v r (omega arith) (omega arith) (omega arith) (omega arith) two (rw (a, b, e) f))
+-- words of which each bit is v
+pub painted-words : (t t′ : List ℕ) (p q x v : ℕ) → ((i : ℕ) → i < 16 → bit x i ≡ v) → min 1 x ≡ v → Stored t p q x t′ → Painted t (16 * p + 1) (16 * q + 1) v t′
+painted-words t t′ p q x v bits some s = record {
+  long = s .long;
+  inside = λ k l h.
+      bit-in t′ k ((k - 1) / 16) refl ∙ ap (λ (w : ℕ). bit w ((k - 1) % 16)) (s .inside ((k - 1) / 16) (omega arith) (omega arith))
+      ∙ bits ((k - 1) % 16) (omega arith);
+  outside = λ k l o.
+      bit-in t′ k ((k - 1) / 16) refl ∙ ap (λ (w : ℕ). bit w ((k - 1) % 16)) (s .outside ((k - 1) / 16) (λ g h. o (omega arith) (omega arith)))
+      ∙ sym (bit-in t k ((k - 1) / 16) refl);
+  words = λ n o. s .outside n (λ g h. o (omega arith) (omega arith));
+  whole = λ n l h. ap (λ (w : ℕ). min 1 w) (s .inside n (omega arith) (omega arith)) ∙ some;
+}
 
 -- one word summarised
 pub noted-one : (t t′ : List ℕ) (f v : ℕ) → 0 < f → Painted t f (f + 1) (min 1 (getD t f 0)) t′ → Noted t f f v t′

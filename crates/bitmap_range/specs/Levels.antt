@@ -1,10 +1,16 @@
--- Summaries mended level by level. Assumes nothing.
+-- Words written whole, and summaries mended level by level. Assumes nothing.
 use mathlib.Core.Path.{_≡_}
 use mathlib.Core.List.{List}
 use Prim.Native.Nat.{ℕ, _+_, _-_, _/_, _<_, _≤_, min}
 use lib.ListN.{length, getD}
 use Rattle.base.specs.Ranges.{Outside}
 use Rattle.bitmap_tree.specs.Tree.{nodeBit, summarised, Agree, AgreeBut}
+
+-- t′ is t with x as each of its words from p up to q
+pub record Stored (t : List ℕ) (p q x : ℕ) (t′ : List ℕ) : Type 0 where
+  pub long : length t′ ≡ length t
+  pub inside : (n : ℕ) → p ≤ n → n < q → getD t′ n 0 ≡ x
+  pub outside : (n : ℕ) → Outside p q n → getD t′ n 0 ≡ getD t n 0
 
 -- each word between a and b, these two left out, has a set bit if v is 1, and none if v is 0
 unfoldable pub Between : List ℕ → ℕ → ℕ → ℕ → Type 0

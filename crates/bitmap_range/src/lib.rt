@@ -5,17 +5,29 @@ ghost use mathlib.Core.Path.{_≡_};
 ghost use Prim.Native.Nat.{ℕ, _+_, _*_, _^_, _≤_, _<_, min};
 ghost use lib.ListN.{length, getD};
 ghost use Rattle.bitmap_tree.specs.Writes.{Painted, Changed};
-ghost use Rattle.bitmap_range.specs.Levels.{Between, Noted, Mended};
+ghost use Rattle.bitmap_range.specs.Levels.{Stored, Between, Noted, Mended};
+
+// Writes x into each of the words from p up to q.
+fn store(tree: &mut [u16], p: usize, q: usize, x: u16)
+    requires { ⌜ (p ≤ q) × (q ≤ length (now tree)) ⌝ }
+    ensures { λ _. ⌜ Stored (now (tree .entry)) p q x (now (tree .exit)) ⌝ }
+{
+    let mut n = p;
+    while n < q {
+        tree[n] = x;
+        n += 1;
+    }
+}
 
 // Gives v to every bit of the words from p up to q.
 pub fn flood(tree: &mut [u16], p: usize, q: usize, v: u16)
     requires { ⌜ (p ≤ q) × (q ≤ length (now tree)) × (v < 2) ⌝ }
     ensures { λ _. ⌜ Painted (now (tree .entry)) (16 * p + 1) (16 * q + 1) v (now (tree .exit)) ⌝ }
 {
-    let mut n = p;
-    while n < q {
-        tree[n] = bits16::fill(tree[n], 0, 16, v);
-        n += 1;
+    if v == 1 {
+        store(tree, p, q, 65535);
+    } else {
+        store(tree, p, q, 0);
     }
 }
 

@@ -54,6 +54,17 @@ painted-word t j e v r pos inb some most two f = record {
     outside k l o (yes q) =
         at k q ∙ f .outside ((k - 1) % 16) (λ x y. o (omega arith) (omega arith)) ∙ sym (bit-in t k ((j - 1) / 16) q)
 
+-- one bit written in its word
+pub painted-one : (t : List ℕ) (j v r : ℕ) → 0 < j → (j - 1) / 16 < length t → v < 2 → Filled (getD t ((j - 1) / 16) 0) ((j - 1) % 16) ((j - 1) % 16 + 1) v r
+    → Painted t j (j + 1) v (set t ((j - 1) / 16) r)
+painted-one t j v r pos inb two f =
+    let e : (j - 1) % 16 + 1 ≡ j + 1 - 1 - 16 * ((j - 1) / 16) = omega arith in
+    painted-word t j (j + 1) v r pos inb (omega arith) (omega arith) two (rw e at f)
+
+-- the summary of a word that was just written
+pub summary-back : (t : List ℕ) (p r s : ℕ) → p < length t → s ≡ min 1 r → s ≡ min 1 (getD (set t p r) p 0)
+summary-back t p r s l e = e ∙ ap (λ (x : ℕ). min 1 x) (sym (getD-set-same t p r 0 l))
+
 -- a write up to the first bit of word p, and one from there on
 pub painted-join : (t t′ t″ : List ℕ) (a p c v : ℕ) → 0 < a → a ≤ 16 * p + 1 → 16 * p + 1 ≤ c
     → Painted t a (16 * p + 1) v t′ → Painted t′ (16 * p + 1) c v t″ → Painted t a c v t″

@@ -56,14 +56,16 @@ pub fn climb(tree: &mut [u16], j: usize, v: u16)
     let mut u = v;
     while n > 0 {
         let p = (n - 1) / 16;
-        let old = bits16::some(tree[p]);
-        write(tree, n, n + 1, u);
-        let new = bits16::some(tree[p]);
-        if old == new {
+        let old = tree[p];
+        let new = bits16::put(old, (n - 1) % 16, u);
+        tree[p] = new;
+        let was = bits16::some(old);
+        let is = bits16::some(new);
+        if was == is {
             return;
         }
         n = p;
-        u = new;
+        u = is;
     }
 }
 

@@ -1,7 +1,8 @@
 -- The bits of `|`, of `^` and of a mask, and what `fill` makes of a word by them. Assumes nothing.
 use mathlib.Core.Path.{_≡_, refl, sym, ap, ap₂, _∙_}
-use Prim.Native.Nat.{ℕ, zero, suc, _-_, _*_, _/_, _%_, _^_, _≤_, _<_, max}
+use Prim.Native.Nat.{ℕ, zero, suc, _+_, _-_, _*_, _/_, _%_, _^_, _≤_, _<_, max}
 use native.Mathlib.Nat.{pow-succ', one-mul, max-zero}
+use native.Mathlib.Numerals.{add-one}
 use native.Mathlib.Omega.{arith}
 use lib.Pow.{pow-pos, pow-mono, shl-exact}
 use lib.Dec.{lit<}
@@ -108,3 +109,13 @@ module _ (w i e m : ℕ) (word : w < 65536) (mask : Filled 0 i e 1 m) where
     inside = λ k a b. bit-xor (bitOr w m) m k ∙ ap₂ differ (filled-one .inside k a b) (mask .inside k a b);
     outside = λ k o. bit-xor (bitOr w m) m k ∙ ap₂ differ (filled-one .outside k o) (clear-out k o) ∙ differ-zero (bit w k) (omega arith);
   }
+
+-- the mask of one place
+pub bit-filled : (i : ℕ) → i < 16 → Filled 0 i (i + 1) 1 ((1 * 2 ^ i) % 65536)
+bit-filled i h =
+    let one : (1 * 2 ^ i) % 65536 ≡ 2 ^ i = shl-exact {a = 1} 1 i 16 (lit< tt) (omega arith) ∙ one-mul (2 ^ i) in
+    let twice : 2 ^ (i + 1) ≡ 2 * 2 ^ i = ap (λ (x : ℕ). 2 ^ x) (add-one i) ∙ pow-succ' 2 i in
+    let lo = one-shl i (omega arith) in
+    let hi = one-shl (i + 1) (omega arith) in
+    let e : (1 * 2 ^ (i + 1)) % 4294967296 - (1 * 2 ^ i) % 4294967296 ≡ (1 * 2 ^ i) % 65536 = omega arith in
+    rw e at (mask-filled i (i + 1) (omega arith) (omega arith))

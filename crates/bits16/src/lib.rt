@@ -21,6 +21,15 @@ pub fn some(w: u16) -> u16
     if w == 0 { 0 } else { 1 }
 }
 
+// w with v as its bit i.
+pub fn put(w: u16, i: usize, v: u16) -> u16
+    requires { ⌜ (i < 16) × (v < 2) ⌝ }
+    ensures { λ r. ⌜ Filled w i (i + 1) v r ⌝ }
+{
+    let m = 1u16 << i;
+    if v == 1 { w | m } else { (w | m) ^ m }
+}
+
 // w with v as each of its bits from i up to e.
 pub fn fill(w: u16, i: usize, e: usize, v: u16) -> u16
     requires { ⌜ (i ≤ e) × (e ≤ 16) × (v < 2) ⌝ }

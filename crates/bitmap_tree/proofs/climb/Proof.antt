@@ -3,7 +3,10 @@ use borrow.Author.Needs.{needs}
 use Rattle.bitmap_tree.proofs.climb.Statement.{statement}
 use Rattle.bitmap_tree.proofs.climb.Tie as tie
 use mathlib.Core.Path.{sym, _∙_}
+use Prim.Native.Nat.{_-_, _/_}
 use native.Mathlib.Omega.{arith}
+use lib.ListN.{length-set}
+use Rattle.bitmap_tree.proofs.Writes.{painted-one, summary-back}
 use Rattle.bitmap_tree.proofs.Ascent.{Climbing, climb-start, climb-step, climb-stop, climb-done}
 
 abbrev Inv-loop : tie.InvT-loop
@@ -18,46 +21,53 @@ loop-holds c = climb-start _ _ _ (c .before .pre .3)
 sub-p : tie.Need-sub-p Inv-loop μ-loop
 sub-p c = omega arith
 
-mul-some : tie.Need-mul-some Inv-loop μ-loop
-mul-some c = let l = c .before .loop .inv .long in omega arith
+mul-old : tie.Need-mul-old Inv-loop μ-loop
+mul-old c = let l = c .before .loop .inv .long in let t = c .before .loop .inv .top in omega arith
 
-slice-read-some : tie.Need-slice-read-some Inv-loop μ-loop
-slice-read-some c = let l = c .before .before .loop .inv .long in let t = c .before .before .loop .inv .top in omega arith
+slice-read-old : tie.Need-slice-read-old Inv-loop μ-loop
+slice-read-old c = let l = c .before .before .loop .inv .long in let t = c .before .before .loop .inv .top in omega arith
+
+sub-put : tie.Need-sub-put Inv-loop μ-loop
+sub-put c = search needs
+
+put-requires : tie.Need-put-requires Inv-loop μ-loop
+put-requires c κs = let w = c .before .before .loop .inv .two in omega arith
+
+mul-tree : tie.Need-mul-tree Inv-loop μ-loop
+mul-tree c = let l = c .before .before .before .loop .inv .long in let t = c .before .before .before .loop .inv .top in omega arith
+
+slice-write-tree : tie.Need-slice-write-tree Inv-loop μ-loop
+slice-write-tree c = let l = c .before .before .before .loop .inv .long in let t = c .before .before .before .loop .inv .top in omega arith
 
 some-requires : tie.Need-some-requires Inv-loop μ-loop
 some-requires c κs = search needs
-
-add-write : tie.Need-add-write Inv-loop μ-loop
-add-write c = let t = c .before .before .before .before .loop .inv .top in omega arith
-
-write-requires : tie.Need-write-requires Inv-loop μ-loop
-write-requires c κs = let l = c .before .before .before .before .loop .inv .long in let t = c .before .before .before .before .loop .inv .top in let w = c .before .before .before .before .loop .inv .two in omega arith
-
-mul-some-2 : tie.Need-mul-some-2 Inv-loop μ-loop
-mul-some-2 c = let l = c .before .before .before .before .before .before .before .loop .inv .long in let w = c .before .before .write .ensures .long in omega arith
-
-slice-read-some-2 : tie.Need-slice-read-some-2 Inv-loop μ-loop
-slice-read-some-2 c = let l = c .before .before .before .before .before .before .before .before .loop .inv .long in let w = c .before .before .before .write .ensures .long in let t = c .before .before .before .before .before .before .before .before .loop .inv .top in omega arith
 
 some-requires-2 : tie.Need-some-requires-2 Inv-loop μ-loop
 some-requires-2 c κs = search needs
 
 same-length : tie.Need-same-length Inv-loop μ-loop
-same-length c = c .before .before .before .before .before .write .ensures .long ∙ c .before .before .before .before .before .before .before .before .before .before .loop .inv .long
+same-length c = let l = c .before .before .before .before .before .before .loop .inv .long in let s = length-set (c .before .before .before .before .before .before .loop .tree) ((c .before .before .before .before .before .before .loop .n - 1) / 16) (c .before .before .before .put .result) in omega arith
 
 returns : tie.Need-returns Inv-loop μ-loop
 returns c =
-    let l = c .before .before .before .before .before .before .before .before .before .before .loop in
-    climb-stop _ (l .tree) _ _ _ (l .n) (l .u) (c .before .before .before .before .before .before .before .before .before .before .before .before .pre .1) (c .before .before .before .before .before .before .before .before .before .loop-test .taken) (l .inv) (c .before .before .before .before .before .write .ensures)
-    (sym (c .before .before .before .before .before .before .before .some .ensures) ∙ c .if1 .taken ∙ c .before .some2 .ensures)
+    let l = c .before .before .before .before .before .before .loop in
+    let o = l .inv .top in
+    let g = l .inv .long in
+    climb-stop _ (l .tree) _ _ _ (l .n) (l .u) (c .before .before .before .before .before .before .before .before .pre .1) (c .before .before .before .before .before .loop-test .taken) (l .inv)
+    (painted-one (l .tree) (l .n) (l .u) (c .before .before .before .put .result) (c .before .before .before .before .before .loop-test .taken) (omega arith) (l .inv .two) (c .before .before .before .put .ensures))
+    (sym (c .before .before .some .ensures) ∙ c .if1 .taken ∙ summary-back (l .tree) ((l .n - 1) / 16) (c .before .before .before .put .result) (c .before .some2 .result) (omega arith) (c .before .some2 .ensures))
 
 loop-less : tie.Need-loop-less Inv-loop μ-loop
 loop-less c = search needs
 
 loop-again : tie.Need-loop-again Inv-loop μ-loop
 loop-again c =
-    let l = c .before .before .before .before .before .before .before .before .before .before .loop in
-    climb-step _ (l .tree) _ _ _ (l .n) (l .u) (c .before .before .before .before .before .before .before .before .before .before .before .before .pre .1) (c .before .before .before .before .before .before .before .before .before .loop-test .taken) (l .inv) (c .before .before .before .before .before .write .ensures) _ (c .before .some2 .ensures)
+    let l = c .before .before .before .before .before .before .loop in
+    let o = l .inv .top in
+    let g = l .inv .long in
+    climb-step _ (l .tree) _ _ _ (l .n) (l .u) (c .before .before .before .before .before .before .before .before .pre .1) (c .before .before .before .before .before .loop-test .taken) (l .inv)
+    (painted-one (l .tree) (l .n) (l .u) (c .before .before .before .put .result) (c .before .before .before .before .before .loop-test .taken) (omega arith) (l .inv .two) (c .before .before .before .put .ensures))
+    _ (summary-back (l .tree) ((l .n - 1) / 16) (c .before .before .before .put .result) (c .before .some2 .result) (omega arith) (c .before .some2 .ensures))
 
 same-length-2 : tie.Need-same-length-2 Inv-loop μ-loop
 same-length-2 c = c .before .loop .inv .long
@@ -75,13 +85,13 @@ climb-spec =
     μ-loop
     loop-holds
     sub-p
-    mul-some
-    slice-read-some
+    mul-old
+    slice-read-old
+    sub-put
+    put-requires
+    mul-tree
+    slice-write-tree
     some-requires
-    add-write
-    write-requires
-    mul-some-2
-    slice-read-some-2
     some-requires-2
     same-length
     returns
