@@ -1,0 +1,50 @@
+-- `effect::all_became` is safe and ends: the measure is how many frames are left. Assumes nothing.
+use Prim.Native.Nat.{_-_}
+use native.Mathlib.Omega.{arith}
+use Rattle.bitmap_judge.proofs.effect.all_became.Statement.{statement}
+use Rattle.bitmap_judge.proofs.effect.all_became.Tie as tie
+
+abbrev Inv-loop : tie.InvT-loop
+Inv-loop old tree a b v n k₀ k = Unit {0}
+
+abbrev μ-loop : tie.MeasureT-loop
+μ-loop old tree a b v n k₀ k = n - k
+
+frames-requires : tie.Need-frames-requires Inv-loop μ-loop
+frames-requires c κs = tt
+
+loop-holds : tie.Need-loop-holds Inv-loop μ-loop
+loop-holds c = tt
+
+became-requires : tie.Need-became-requires Inv-loop μ-loop
+became-requires c κs = tt
+
+returns : tie.Need-returns Inv-loop μ-loop
+returns c = tt
+
+add-k : tie.Need-add-k Inv-loop μ-loop
+add-k c = omega arith
+
+loop-less : tie.Need-loop-less Inv-loop μ-loop
+loop-less c = omega arith
+
+loop-again : tie.Need-loop-again Inv-loop μ-loop
+loop-again c = tt
+
+returns-2 : tie.Need-returns-2 Inv-loop μ-loop
+returns-2 c = tt
+
+pub all-became-spec : {M : Type 1} → statement M
+all-became-spec =
+    tie.close
+    (tie.spec
+    Inv-loop
+    μ-loop
+    frames-requires
+    loop-holds
+    became-requires
+    returns
+    add-k
+    loop-less
+    loop-again
+    returns-2)
