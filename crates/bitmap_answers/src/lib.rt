@@ -1,11 +1,6 @@
 // What the allocator answers, as plain numbers, and the numbers that stand in a file of answers. A
 // library for programs that replay requests; nothing here prints.
 ghost use Prim.Native.Nat.{_<_};
-use bitmap_allocator::Allocated;
-use bitmap_allocator::Freed;
-use bitmap_allocator::NextFree;
-use bitmap_allocator::Ranged;
-use bitmap_allocator::RunTaken;
 use bitmap_allocator::Tested;
 use bitmap_allocator::Words;
 
@@ -24,92 +19,43 @@ pub fn words(frames: usize) -> usize {
     }
 }
 
-// What the tree answers to a request of this kind.
+// What the tree answers to a request of this kind, as the file has it.
 pub fn ask(tree: &mut [u16], kind: usize, a: usize, b: usize) -> usize {
-    if kind == 0 {
-        return taken(bitmap_allocator::alloc(tree));
-    }
-    if kind == 1 {
-        return next(bitmap_allocator::next(tree, a));
-    }
-    if kind == 2 {
-        return run(bitmap_allocator::alloc_contiguous(tree, a, b));
-    }
-    if kind == 3 {
-        return freed(bitmap_allocator::dealloc(tree, a));
-    }
-    if kind == 4 {
-        return ranged(bitmap_allocator::insert(tree, a, b));
-    }
-    ranged(bitmap_allocator::remove(tree, a, b))
+    told(bitmap_requests::make(tree, request(kind), a, b))
 }
 
-// The answer of `alloc` as a number.
-fn taken(answer: Allocated) -> usize {
-    match answer {
-        Allocated::Frame(k) => k,
-        Allocated::NoRoom => NONE,
-        Allocated::Corrupt => REFUSED,
-        Allocated::NotFull => REFUSED,
+// The request of this kind.
+fn request(kind: usize) -> usize {
+    match kind {
+        0 => bitmap_requests::ALLOC,
+        1 => bitmap_requests::NEXT,
+        2 => bitmap_requests::ALLOC_CONTIGUOUS,
+        3 => bitmap_requests::DEALLOC,
+        4 => bitmap_requests::INSERT,
+        _ => bitmap_requests::REMOVE,
     }
 }
 
-// The answer of `next` as a number.
-fn next(answer: NextFree) -> usize {
-    match answer {
-        NextFree::Frame(k) => k,
-        NextFree::Nothing => NONE,
-        NextFree::Corrupt => REFUSED,
-        NextFree::Outside => REFUSED,
-        NextFree::NotFull => REFUSED,
-    }
-}
-
-// The answer of `alloc_contiguous` as a number.
-fn run(answer: RunTaken) -> usize {
-    match answer {
-        RunTaken::At(k) => k,
-        RunTaken::NoRoom => NONE,
-        RunTaken::Corrupt => REFUSED,
-        RunTaken::Empty => REFUSED,
-        RunTaken::NotFull => REFUSED,
-    }
-}
-
-// The answer of `dealloc` as a number.
-fn freed(answer: Freed) -> usize {
-    match answer {
-        Freed::Done => 0,
-        Freed::NotTaken => REFUSED,
-        Freed::Outside => REFUSED,
-        Freed::NotFull => REFUSED,
-    }
-}
-
-// The answer of `insert` and `remove` as a number.
-fn ranged(answer: Ranged) -> usize {
-    match answer {
-        Ranged::Done => 0,
-        Ranged::Empty => REFUSED,
-        Ranged::Reversed => REFUSED,
-        Ranged::Outside => REFUSED,
-        Ranged::NotFull => REFUSED,
-    }
-}
-
-// The answer of `test` as a number.
-fn free(answer: Tested) -> usize {
-    match answer {
-        Tested::Free => 1,
-        Tested::Taken => 0,
-        Tested::Outside => REFUSED,
-        Tested::NotFull => REFUSED,
+// The number that stands in the file for an answer.
+fn told(answer: usize) -> usize {
+    let kind = answer % 32;
+    match kind {
+        bitmap_requests::FRAME => answer / 32,
+        bitmap_requests::DONE => 0,
+        bitmap_requests::NOTHING => NONE,
+        bitmap_requests::NO_ROOM => NONE,
+        _ => REFUSED,
     }
 }
 
 // 1 if frame k is free, and 0 if it is taken.
 pub fn free_at(tree: &[u16], k: usize) -> usize {
-    free(bitmap_allocator::test(tree, k))
+    match bitmap_allocator::test(tree, k) {
+        Tested::Free => 1,
+        Tested::Taken => 0,
+        Tested::Outside => REFUSED,
+        Tested::NotFull => REFUSED,
+    }
 }
 
 // The bit k of the words that stand at a place, or 0 past the end. A word's low byte comes first.
