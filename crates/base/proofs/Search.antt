@@ -1,6 +1,6 @@
 -- The laws of the two searches: each statement determines its answer. Assumes nothing.
 use mathlib.Core.Path.{_≡_}
-use Prim.Native.Nat.{ℕ, _+_, _-_, _≤_, _<_}
+use Prim.Native.Nat.{ℕ, zero, suc, _+_, _-_, _≤_, _<_}
 use native.Mathlib.Decide.{decLt, ℕ-discrete}
 use native.Mathlib.Omega.{arith}
 use Rattle.base.specs.Search.{Stops, Since}
@@ -43,3 +43,18 @@ above-more {P} n m b above e here k l h = go (ℕ-discrete k m)
     go : Dec (k ≡ m) → P k
     go (yes q) = rw q here
     go (no d) = above k (omega (arith, d)) h
+
+-- where not every number below n passes, there is one that does not
+pub some-fails : (P : ℕ → Type 0) → ((i : ℕ) → Dec (P i)) → (n : ℕ) → (((i : ℕ) → i < n → P i) → ⊥) → (i : ℕ) × (i < n) × (P i → ⊥)
+some-fails P test zero not = absurd (not (λ i l. absurd (omega arith)))
+some-fails P test (suc n) not = go (test n) (some-fails P test n)
+  where
+    go : Dec (P n) → ((((i : ℕ) → i < n → P i) → ⊥) → (i : ℕ) × (i < n) × (P i → ⊥)) → (i : ℕ) × (i < suc n) × (P i → ⊥)
+    go (no f) lower = (n, omega arith, f)
+    go (yes p) lower =
+        let r = lower (λ all. not (λ i l. at i l all (ℕ-discrete i n))) in
+        (r .0, (let l = r .1 in omega arith), r .2)
+      where
+        at : (i : ℕ) → i < suc n → ((i : ℕ) → i < n → P i) → Dec (i ≡ n) → P i
+        at i l all (yes e) = rw e p
+        at i l all (no d) = all i (omega (arith, d))

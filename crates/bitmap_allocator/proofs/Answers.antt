@@ -1,13 +1,15 @@
 -- From what the inner crates' functions say to what the public ones do. Assumes nothing.
 use mathlib.Core.Path.{_≡_, _∙_}
 use mathlib.Core.List.{List}
-use Prim.Native.Nat.{ℕ, _+_, _-_, _*_, _/_}
+use Prim.Native.Nat.{ℕ, _+_, _-_, _*_, _/_, _%_, _<_, min}
+use native.Mathlib.Decide.{ℕ-discrete}
 use native.Mathlib.Omega.{arith}
 use lib.ListN.{length, getD}
 use Rattle.base.specs.Search.{Stops}
-use Rattle.bitmap_tree.specs.Tree.{free, Full, summarised, Agree}
+use Rattle.base.proofs.Search.{some-fails}
+use Rattle.bitmap_tree.specs.Tree.{nodeBit, free, Full, summarised, honest, Agree}
 use Rattle.bitmap_tree.specs.Writes.{Painted, Changed}
-use Rattle.bitmap_tree.proofs.Fullness.{full-bound}
+use Rattle.bitmap_tree.proofs.Fullness.{full-bound, full-whole}
 use Rattle.bitmap_tree.proofs.Summaries.{root-none, some-under, Words16}
 use Rattle.bitmap_search.specs.Heights.{Under}
 use Rattle.bitmap_search.specs.Found.{NoneFrom}
@@ -33,23 +35,29 @@ root-says-some t f words some a =
     let e : length t + (r .0 - length t) ≡ r .0 = omega arith in
     record { frame = r .0 - length t; within = omega arith; is = rw e (r .3) }
 
--- no word but the root is without its summary: the summaries agree
-pub no-lie : (t : List ℕ) (n : ℕ) → Stops (summarised t) 1 (length t) n → n ≡ length t → Agree t
-unfolding Agree
-no-lie t n s e m p l = s .before m (omega arith) (omega arith)
+-- a word is summarised if its parent is honest
+from-parent : (t : List ℕ) (n : ℕ) → 0 < n → honest t ((n - 1) / 16) → summarised t n
+from-parent t n p h = let e : 16 * ((n - 1) / 16) + 1 + (n - 1) % 16 ≡ n = omega arith in rw e at (h ((n - 1) % 16) (omega arith))
 
--- the parent of the first word without its summary is the lowest word that lies
-pub lowest-lie : (t : List ℕ) (n : ℕ) → Stops (summarised t) 1 (length t) n → (n ≡ length t → ⊥) → LowestLie t ((n - 1) / 16)
-lowest-lie t n s ne =
+-- every word that speaks for words is honest: the summaries agree
+pub no-lie : (t : List ℕ) (p : ℕ) → Full (length t) → Stops (honest t) 0 ((length t - 1) / 16) p → p ≡ (length t - 1) / 16 → Agree t
+unfolding Agree
+no-lie t p f s e n pos l = let w = full-whole (length t) f in from-parent t n pos (s .before ((n - 1) / 16) (omega arith) (omega arith))
+
+-- the first word that is not honest has a bit that lies
+pub lowest-lie : (t : List ℕ) (p : ℕ) → Full (length t) → Stops (honest t) 0 ((length t - 1) / 16) p → (p ≡ (length t - 1) / 16 → ⊥) → LowestLie t p
+lowest-lie t p f s ne =
+    let w = full-whole (length t) f in
     let hi = s .high in
-    let lo = s .low in
+    let r = some-fails (λ i. summarised t (16 * p + 1 + i)) (λ i. ℕ-discrete (nodeBit t (16 * p + 1 + i)) (min 1 (getD t (16 * p + 1 + i) 0))) 16 (s .fails (omega (arith, ne))) in
+    let l = r .1 in
     record {
-      child = n;
-      some = lo;
+      child = 16 * p + 1 + r .0;
+      some = omega arith;
       within = omega (arith, ne);
       under = omega arith;
-      lies = s .fails (omega (arith, ne));
-      lowest = λ m p l h. s .before m (omega arith) (omega arith);
+      lies = r .2;
+      lowest = λ m q h k. from-parent t m q (s .before ((m - 1) / 16) (omega arith) k);
     }
 
 -- every word painted with 0

@@ -206,11 +206,11 @@ pub fn check(tree: &[u16]) -> Checked
     if !bitmap_tree::is_full(w) {
         return Checked::NotFull;
     }
-    let n = bitmap_tree::first_lie(tree);
-    if n == w {
+    let p = bitmap_tree::first_lie(tree);
+    if p == (w - 1) / 16 {
         Checked::Sound
     } else {
-        Checked::Lie((n - 1) / 16)
+        Checked::Lie(p)
     }
 }
 

@@ -39,16 +39,12 @@ fn request(tree: &mut [u16], old: &mut [u16], s: u64) -> usize {
     }
 }
 
-// Fills the memory at every fortieth turn, with any summaries over frames of some density, and resets it
-// between.
+// Fills the memory anew at every fortieth turn.
 fn prepare(tree: &mut [u16], i: u64) {
-    if i % 40 == 0 {
-        random::fill(tree, i);
+    if i % 40 != 0 {
         return;
     }
-    if i % 40 == 20 {
-        bitmap_requests::make(tree, bitmap_requests::RESET, 0, 0);
-    }
+    random::fill(tree, i / 40);
 }
 
 // Makes so many requests on the words that there are.
@@ -83,13 +79,7 @@ fn words_273(counts: &mut [u64; 32]) {
     turns(&mut tree, &mut old, 100000, counts);
 }
 
-// No trees.
-
-fn words_0(counts: &mut [u64; 32]) {
-    let mut tree = [0u16; 0];
-    let mut old = [0u16; 0];
-    turns(&mut tree, &mut old, 1000, counts);
-}
+// No tree.
 
 fn words_18(counts: &mut [u64; 32]) {
     let mut tree = [0u16; 18];
@@ -102,7 +92,6 @@ fn main() {
     words_1(&mut counts);
     words_17(&mut counts);
     words_273(&mut counts);
-    words_0(&mut counts);
     words_18(&mut counts);
     tally::print(&counts);
 }

@@ -1,5 +1,4 @@
 // How often each kind of answer was given, by its number, and at the last place how often one was wrong.
-use bitmap_requests::names;
 
 // The place of what was wrong.
 pub const WRONG: usize = 31;
@@ -12,8 +11,8 @@ pub fn note(tally: &mut [u64; 32], i: usize) {
 
 // Prints the name with the number k.
 fn name(list: &[u8], k: usize) {
-    let at = names::start(list, k);
-    let end = names::find(list, at, b',');
+    let at = bitmap_names::start(list, k);
+    let end = bitmap_names::find(list, at, b',');
     if at <= end && end <= list.len() {
         io::write_all(1, &list[at..end]);
     }
@@ -23,7 +22,7 @@ fn name(list: &[u8], k: usize) {
 fn line(many: u64, kind: usize) {
     io::print_decimal(1, many);
     io::write_all(1, b" ");
-    name(&names::ANSWERS, kind);
+    name(&bitmap_names::ANSWERS, kind);
     io::write_all(1, b"\n");
 }
 

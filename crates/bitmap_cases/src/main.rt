@@ -3,8 +3,6 @@
 // The answers in the file stdout are those of a plain array of booleans: gate/expected_cases.py.
 mod read;
 
-use bitmap_requests::names;
-
 // Prints a text.
 fn say(text: &[u8]) {
     io::write_all(1, text);
@@ -24,8 +22,8 @@ fn part(text: &[u8], at: usize, end: usize) {
 
 // Prints the name with the number k.
 fn name(list: &[u8], k: usize) {
-    let at = names::start(list, k);
-    part(list, at, names::find(list, at, b','));
+    let at = bitmap_names::start(list, k);
+    part(list, at, bitmap_names::find(list, at, b','));
 }
 
 // Prints an answer.
@@ -34,7 +32,7 @@ fn tell(answer: usize) {
         number(answer / 32);
         return;
     }
-    name(&names::ANSWERS, answer % 32);
+    name(&bitmap_names::ANSWERS, answer % 32);
     if answer % 32 <= bitmap_requests::LIE {
         say(b" ");
         number(answer / 32);
@@ -47,13 +45,13 @@ fn request(tree: &mut [u16], line: &[u8], n: usize) {
     let first = read::next_word(line, 0);
     let a = read::number(line, first, n, w);
     let b = read::number(line, read::next_word(line, first), n, w);
-    tell(bitmap_requests::make(tree, names::request(line), a, b));
+    tell(bitmap_requests::make(tree, bitmap_names::request(line), a, b));
 }
 
 // Prints a line, and behind it what its request answers, unless it starts with `#`.
 fn answered(tree: &mut [u16], line: &[u8], n: usize) {
     say(line);
-    if names::byte(line, 0) == b'#' {
+    if bitmap_names::byte(line, 0) == b'#' {
         say(b"\n");
         return;
     }
@@ -72,7 +70,7 @@ fn lines(tree: &mut [u16], text: &[u8]) {
     let n = frames(tree);
     let mut at: usize = 0;
     while at < text.len() {
-        let end = names::find(text, at, b'\n');
+        let end = bitmap_names::find(text, at, b'\n');
         if end < at {
             return;
         }

@@ -1,10 +1,9 @@
 // The numbers of a request.
 ghost use Prim.Native.Nat.{_<_};
-use bitmap_requests::names;
 
 // Where the next word of the line starts.
 pub fn next_word(line: &[u8], at: usize) -> usize {
-    std::num::wrapping_add_usize(names::find(line, at, b' '), 1)
+    std::num::wrapping_add_usize(bitmap_names::find(line, at, b' '), 1)
 }
 
 // The value of a digit, or 10.
@@ -38,7 +37,7 @@ fn decimal(line: &[u8], at: usize) -> usize {
 // x, or x with the number behind a sign added to it or taken off.
 fn near(x: usize, line: &[u8], at: usize) -> usize {
     let d = decimal(line, std::num::wrapping_add_usize(at, 1));
-    match names::byte(line, at) {
+    match bitmap_names::byte(line, at) {
         b'+' => std::num::wrapping_add_usize(x, d),
         b'-' => std::num::wrapping_sub_usize(x, d),
         _ => x,
@@ -49,7 +48,7 @@ fn near(x: usize, line: &[u8], at: usize) -> usize {
 // largest number that there is, each with a number added or taken off if it is to be near.
 pub fn number(line: &[u8], at: usize, n: usize, w: usize) -> usize {
     let behind = std::num::wrapping_add_usize(at, 1);
-    match names::byte(line, at) {
+    match bitmap_names::byte(line, at) {
         b'n' => near(n, line, behind),
         b'h' => near(n / 2, line, behind),
         b'w' => near(w, line, behind),

@@ -42,18 +42,25 @@ pub fn small(s: u64, x: usize) -> usize {
     }
 }
 
-// A word that s picks: any, or mostly 0, or mostly all ones.
+// A word that s picks: of density 0 any, of 1 mostly 0, of 2 mostly all ones, and of 3 always 0.
 fn word(s: u64, density: u64) -> u16 {
-    let w = (s / 32768 % 65536) as u16;
+    if density == 3 {
+        return 0;
+    }
     if density == 0 || s / 256 % 8 == 0 {
-        return w;
+        return (s / 32768 % 65536) as u16;
     }
     if density == 1 { 0 } else { 65535 }
 }
 
-// How dense word i of w is: a summary is any word, and the words with frames are of one density each time.
+// The density of word i of w. The words with frames have one of the four, and the summaries above them are
+// any words, or always 0 too.
 fn density(i: usize, w: usize, seed: u64) -> u64 {
-    if i < w / 16 { 0 } else { seed / 40 % 3 }
+    let d = seed % 4;
+    if d == 3 {
+        return 3;
+    }
+    if i < w / 16 { 0 } else { d }
 }
 
 // Fills the memory.

@@ -13,9 +13,7 @@ use bitmap_allocator::Tested;
 use bitmap_allocator::Wiped;
 use bitmap_allocator::Words;
 
-pub mod names;
-
-// The requests, by their places in `names::REQUESTS`.
+// The requests. bitmap_names has their names, and those of the answers, in this order.
 pub const WORDS_FOR: usize = 0;
 
 pub const CAP: usize = 1;
@@ -45,7 +43,7 @@ pub const REMOVE: usize = 12;
 // Not a function of the library: writes a word past it, as damage would.
 pub const PUT: usize = 13;
 
-// The kinds of answers, by their places in `names::ANSWERS`.
+// The kinds of answers.
 pub const NUMBER: usize = 0;
 
 pub const FRAME: usize = 1;

@@ -1,13 +1,16 @@
 -- What the summaries say of the frames where they agree. Assumes nothing.
-use mathlib.Core.Path.{_≡_, ap, _∙_}
+use mathlib.Core.Path.{_≡_, sym, ap, _∙_}
 use mathlib.Core.List.{List}
 use Prim.Native.Nat.{ℕ, zero, suc, _+_, _-_, _*_, _/_, _≤_, _<_}
 use native.Mathlib.Decide.{ℕ-discrete, decLt}
 use native.Mathlib.Omega.{arith}
 use lib.ListN.{length, getD}
 use lib.Count.{trailingZeros}
+use Rattle.bits16.specs.Bits.{bit}
 use Rattle.bits16.proofs.Laws.{lowest-trailing, lowest-set, lowest-some}
-use Rattle.bitmap_tree.specs.Tree.{nodeBit, Agree}
+use Rattle.bits16.proofs.Lengths.{same-bits}
+use Rattle.bitmap_tree.specs.Tree.{nodeBit, Agree, honest}
+use Rattle.bitmap_tree.specs.Writes.{Summary}
 use Rattle.bitmap_tree.proofs.Nodes.{child-bit, parent-none}
 
 -- a word whose bit is set is not 0
@@ -54,3 +57,13 @@ some-under t a f n l some = go (length t) n (omega arith) l some
             → (j : ℕ) × (length t ≤ j) × (j ≤ 16 * length t) × (nodeBit t j ≡ 1)
         at i lt set (yes q) down = down (16 * n + 1 + i) (omega arith) q (set-some t (16 * n + 1 + i) a (omega arith) q set)
         at i lt set (no q) down = (16 * n + 1 + i, omega arith, omega arith, set)
+
+-- ---- a word of summaries
+
+-- a word that is what it is to be is honest
+pub honest-word : (t : List ℕ) (p r : ℕ) → Summary t p r → r ≡ getD t p 0 → honest t p
+honest-word t p r s e i l = child-bit t p i l ∙ ap (λ (x : ℕ). bit x i) (sym e) ∙ s .bits i l
+
+-- an honest word is what it is to be
+pub honest-is : (t : List ℕ) (p r : ℕ) → getD t p 0 < 65536 → Summary t p r → honest t p → r ≡ getD t p 0
+honest-is t p r f s h = same-bits 16 r (getD t p 0) (s .fits) f (λ i l. s .bits i l ∙ sym (h i l) ∙ child-bit t p i l)

@@ -30,6 +30,10 @@ pub record Full (w : ℕ) : Type 0 where
 abbrev pub summarised : List ℕ → ℕ → Type 0
 summarised t n = nodeBit t n ≡ min 1 (getD t n 0)
 
+-- each bit of word p says whether the word that it speaks for has a set bit
+abbrev pub honest : List ℕ → ℕ → Type 0
+honest t p = (i : ℕ) → i < 16 → summarised t (16 * p + 1 + i)
+
 -- the summaries agree: each word but the root is summarised
 unfoldable pub Agree : List ℕ → Type 0
 Agree t = (n : ℕ) → 0 < n → n < length t → summarised t n

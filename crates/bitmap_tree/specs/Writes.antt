@@ -1,10 +1,16 @@
--- How a tree changes. Assumes nothing.
+-- How a tree changes, and what a word of summaries is to be. Assumes nothing.
 use mathlib.Core.Path.{_≡_}
 use mathlib.Core.List.{List}
 use Prim.Native.Nat.{ℕ, _+_, _-_, _*_, _/_, _<_, _≤_, min}
 use lib.ListN.{length, getD}
 use Rattle.base.specs.Ranges.{Outside}
+use Rattle.bits16.specs.Bits.{bit}
 use Rattle.bitmap_tree.specs.Tree.{nodeBit, free, Agree, AgreeBut}
+
+-- r is the word that has the summaries of the sixteen words that word p speaks for
+pub record Summary (t : List ℕ) (p r : ℕ) : Type 0 where
+  pub fits : r < 65536
+  pub bits : (i : ℕ) → i < 16 → bit r i ≡ min 1 (getD t (16 * p + 1 + i) 0)
 
 -- t′ is t with v as the bit of each node from a up to b; a word that has none of them is as it was, and one that has no other is all v
 pub record Painted (t : List ℕ) (a b v : ℕ) (t′ : List ℕ) : Type 0 where

@@ -7,8 +7,8 @@ ghost use lib.ListN.{length};
 ghost use Rattle.base.specs.Ranges.{howMany};
 ghost use Rattle.base.specs.Says.{Says};
 ghost use Rattle.base.specs.Search.{Stops};
-ghost use Rattle.bitmap_tree.specs.Tree.{nodeBit, free, cap, Full, summarised};
-ghost use Rattle.bitmap_tree.specs.Writes.{Painted, Climbed, Changed};
+ghost use Rattle.bitmap_tree.specs.Tree.{nodeBit, free, cap, Full, honest};
+ghost use Rattle.bitmap_tree.specs.Writes.{Painted, Climbed, Changed, Summary};
 
 // Whether w words make a full tree.
 pub fn is_full(w: usize) -> bool
@@ -78,19 +78,36 @@ pub fn change_one(tree: &mut [u16], k: usize, v: u16)
     climb(tree, w + k, v);
 }
 
-// The lowest word but the root whose summary does not tell whether it is 0, or the number of words.
-pub fn first_lie(tree: &[u16]) -> usize
-    requires { ⌜ 0 < length (now tree) ⌝ }
-    ensures { λ r. ⌜ Stops (summarised (now (tree .entry))) 1 (length (now (tree .entry))) r ⌝ }
+// What word p is to be: the summaries of the sixteen words that it speaks for.
+fn summary(tree: &[u16], p: usize) -> u16
+    requires { ⌜ (16 * p + 16 < length (now tree)) × (length (now tree) < 2 ^ 57) ⌝ }
+    ensures { λ r. ⌜ Summary (now (tree .entry)) p r ⌝ }
 {
-    let mut n: usize = 1;
-    while n < tree.len() {
-        if read(tree, n) != bits16::some(tree[n]) {
-            return n;
-        }
-        n += 1;
+    let mut r: u16 = 0;
+    let mut i: usize = 0;
+    while i < 16 {
+        let s = bits16::some(tree[16 * p + 1 + i]);
+        r = bits16::append(r, i, s);
+        i += 1;
     }
-    n
+    r
+}
+
+// The lowest word with a bit that does not tell whether the word that it speaks for is 0, or the first
+// word that speaks for frames.
+pub fn first_lie(tree: &[u16]) -> usize
+    requires { ⌜ Full (length (now tree)) ⌝ }
+    ensures { λ r. ⌜ Stops (honest (now (tree .entry))) 0 ((length (now (tree .entry)) - 1) / 16) r ⌝ }
+{
+    let end = (tree.len() - 1) / 16;
+    let mut p: usize = 0;
+    while p < end {
+        if summary(tree, p) != tree[p] {
+            return p;
+        }
+        p += 1;
+    }
+    p
 }
 
 // How many frames are free, a word at a time.

@@ -1,13 +1,15 @@
 -- The length of a word in bits, the bits of a word's complement, and what `set_since` answers by them. Assumes nothing.
 use mathlib.Core.Path.{_≡_, sym, ap, _∙_}
 use Prim.Native.Nat.{ℕ, zero, suc, _+_, _-_, _*_, _/_, _%_, _^_, _≤_, _<_}
-use native.Mathlib.Nat.{pow-succ', mod-lt, lt-of-lt-of-le, le-div-iff-mul-le, div-lt-iff-lt-mul}
+use native.Mathlib.Numerals.{add-one}
+use native.Mathlib.Nat.{zero-mul, one-mul, pow-succ', mod-lt, lt-of-lt-of-le, le-div-iff-mul-le, div-lt-iff-lt-mul}
 use native.Mathlib.Decide.{decLt}
 use native.Mathlib.Omega.{arith}
 use lib.Dec.{lit<}
-use lib.Pow.{pow-pos, pow-mono, field, mod-mod-pow}
+use lib.Pow.{pow-pos, pow-mono, field, mod-mod-pow, shl-exact, high, low}
+use lib.Bits.{bitOr, or-shifted-r}
 use lib.Count.{leadingZeros, leading-length}
-use Rattle.bits16.specs.Bits.{bit, SetSince}
+use Rattle.bits16.specs.Bits.{bit, Appended, SetSince}
 use Rattle.bits16.proofs.Laws.{bit-zero, bit-suc, bit-of-zero, bit-above, bit-within}
 
 -- the lowest e bits of a word are kept by `% 2 ^ e`
@@ -72,3 +74,32 @@ since-leading w e h l =
     rw z
     (since-length ((65535 - w) % 2 ^ e) (t .0) (t .2) (t .3) w e fits
     (λ k s. bit-mod (65535 - w) e k s ∙ bit-not 16 w k h (omega arith)))
+
+-- ---- words bit by bit
+
+-- one bit more, above all others
+pub appended : (w i v : ℕ) → i < 16 → w < 2 ^ i → v < 2 → Appended w i v (bitOr w ((v * 2 ^ i) % 65536))
+appended w i v h f two =
+    let exact : (v * 2 ^ i) % 65536 ≡ v * 2 ^ i = shl-exact {a = v} 1 i 16 two (omega arith) in
+    let sum = or-shifted-r v i w f in
+    let twice : 2 ^ (i + 1) ≡ 2 * 2 ^ i = ap (λ (x : ℕ). 2 ^ x) (add-one i) ∙ pow-succ' 2 i in
+    rw (exact, sum) (record {
+      fits = fits v two (omega arith);
+      here = ap (λ (x : ℕ). x % 2) (high v i f) ∙ omega arith;
+      below = λ k l. sym (bit-mod (v * 2 ^ i + w) i k l) ∙ ap (λ (x : ℕ). bit x k) (low v i f);
+    })
+  where
+    fits : (v : ℕ) → v < 2 → 2 ^ (i + 1) ≡ 2 * 2 ^ i → v * 2 ^ i + w < 2 ^ (i + 1)
+    fits zero l e = let z = zero-mul (2 ^ i) in omega arith
+    fits (suc zero) l e = let o = one-mul (2 ^ i) in omega arith
+    fits (suc (suc v)) l e = absurd (omega arith)
+
+-- words with the same bits are the same
+pub same-bits : (n a b : ℕ) → a < 2 ^ n → b < 2 ^ n → ((k : ℕ) → k < n → bit a k ≡ bit b k) → a ≡ b
+same-bits zero a b f g h = omega arith
+same-bits (suc n) a b f g h =
+    let f₂ : a < 2 * 2 ^ n = rw (pow-succ' 2 n) at f in
+    let g₂ : b < 2 * 2 ^ n = rw (pow-succ' 2 n) at g in
+    let lowest : a % 2 ≡ b % 2 = sym (bit-zero a) ∙ h 0 (omega arith) ∙ bit-zero b in
+    let rest = same-bits n (a / 2) (b / 2) (omega arith) (omega arith) (λ k l. sym (bit-suc a k) ∙ h (suc k) (omega arith) ∙ bit-suc b k) in
+    omega arith

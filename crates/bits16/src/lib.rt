@@ -1,9 +1,9 @@
 // One word of sixteen bits: reading a bit, writing a stretch of them, finding the lowest that is set,
 // and counting. An inner crate: its functions ask what their callers show.
 ghost use mathlib.Core.Path.{_≡_};
-ghost use Prim.Native.Nat.{_+_, _*_, _<_, _≤_, min};
+ghost use Prim.Native.Nat.{_+_, _*_, _^_, _<_, _≤_, min};
 ghost use Rattle.base.specs.Ranges.{howMany};
-ghost use Rattle.bits16.specs.Bits.{bit, Filled, Lowest, SetSince};
+ghost use Rattle.bits16.specs.Bits.{bit, Filled, Appended, Lowest, SetSince};
 ghost use Rattle.bits16.specs.Runs.{Multiples, RunsOf, Starts};
 
 // The bit i of w.
@@ -28,6 +28,14 @@ pub fn put(w: u16, i: usize, v: u16) -> u16
 {
     let m = 1u16 << i;
     if v == 1 { w | m } else { (w | m) ^ m }
+}
+
+// w, of which no bit from i on is set, with v as its bit i.
+pub fn append(w: u16, i: usize, v: u16) -> u16
+    requires { ⌜ (i < 16) × (w < 2 ^ i) × (v < 2) ⌝ }
+    ensures { λ r. ⌜ Appended w i v r ⌝ }
+{
+    w | (v << i)
 }
 
 // w with v as each of its bits from i up to e.

@@ -3,6 +3,7 @@ use borrow.Author.Needs.{needs}
 use Rattle.bitmap_allocator.proofs.check.Statement.{statement}
 use Rattle.bitmap_allocator.proofs.check.Tie as tie
 use Prim.Native.Nat.{_-_}
+use native.Mathlib.Omega.{arith}
 use lib.ListN.{length}
 use Rattle.base.proofs.Says.{refused, not-refused}
 use Rattle.bitmap_tree.specs.Tree.{Full}
@@ -16,19 +17,19 @@ returns : tie.Need-returns
 returns c = refused (c .before .is-full .result) (c .if1 .taken) (c .before .is-full .ensures)
 
 first-lie-requires : tie.Need-first-lie-requires
-first-lie-requires c κs = let f : Full (length (c .before .before .before .args .tree .now)) = not-refused (c .before .is-full .result) (c .if1 .left) (c .before .is-full .ensures) in
-    let b = full-bound _ f in
-    b .0
+first-lie-requires c κs = not-refused (c .before .is-full .result) (c .if1 .left) (c .before .is-full .ensures)
 
-sub-t7 : tie.Need-sub-t7
-sub-t7 c = search needs
+sub-if2 : tie.Need-sub-if2
+sub-if2 c = let f : Full (length (c .before .before .before .before .args .tree .now)) = not-refused (c .before .before .is-full .result) (c .before .if1 .left) (c .before .before .is-full .ensures) in
+    let b = full-bound _ f in
+    omega arith
 
 returns-2 : tie.Need-returns-2
-returns-2 c = (not-refused (c .before .before .before .is-full .result) (c .before .before .if1 .left) (c .before .before .before .is-full .ensures), no-lie _ _ (c .before .first-lie .ensures) (c .if2 .taken))
+returns-2 c = (not-refused (c .before .before .before .is-full .result) (c .before .before .if1 .left) (c .before .before .before .is-full .ensures), no-lie _ _ (not-refused (c .before .before .before .is-full .result) (c .before .before .if1 .left) (c .before .before .before .is-full .ensures)) (c .before .first-lie .ensures) (c .if2 .taken))
 
 returns-3 : tie.Need-returns-3
-returns-3 c = (not-refused (c .before .before .before .is-full .result) (c .before .before .if1 .left) (c .before .before .before .is-full .ensures), lowest-lie _ _ (c .before .first-lie .ensures) (c .if2 .left))
+returns-3 c = (not-refused (c .before .before .before .is-full .result) (c .before .before .if1 .left) (c .before .before .before .is-full .ensures), lowest-lie _ _ (not-refused (c .before .before .before .is-full .result) (c .before .before .if1 .left) (c .before .before .before .is-full .ensures)) (c .before .first-lie .ensures) (c .if2 .left))
 
 pub check-spec : {M : Type 1} → statement M
 check-spec =
-    tie.close (tie.spec is-full-requires returns first-lie-requires sub-t7 returns-2 returns-3)
+    tie.close (tie.spec is-full-requires returns first-lie-requires sub-if2 returns-2 returns-3)

@@ -1,7 +1,6 @@
 -- `in_words` is safe: the part has so many words. Assumes nothing.
 use mathlib.Core.Path.{sym}
 use lib.Seq.{length-take-le}
-use lib.ListN.{length}
 use native.Mathlib.Omega.{arith}
 use borrow.Author.Needs.{needs}
 use Rattle.bitmap_cases.proofs.in_words.Statement.{statement}

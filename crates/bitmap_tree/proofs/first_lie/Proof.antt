@@ -1,60 +1,61 @@
--- `bitmap_tree::first_lie` meets its contract. The invariant of its loop: every word passed is summarised. The measure is what is left of the words. Assumes nothing.
+-- `bitmap_tree::first_lie` meets its contract. The invariant of its loop: every word passed is honest. The measure is what is left of those that speak for words. Assumes nothing.
 use borrow.Author.Needs.{needs}
 use Rattle.bitmap_tree.proofs.first_lie.Statement.{statement}
 use Rattle.bitmap_tree.proofs.first_lie.Tie as tie
-use mathlib.Core.Path.{sym, _∙_}
-use Prim.Native.Nat.{ℕ, _-_, _≤_, _<_}
+use Prim.Native.Nat.{ℕ, _-_, _/_, _≤_, _<_}
 use native.Mathlib.Omega.{arith}
 use borrow.Author.Count.{below-more}
 use lib.ListN.{length}
-use Rattle.bitmap_tree.specs.Tree.{summarised}
+use Rattle.bitmap_tree.specs.Tree.{honest}
+use Rattle.bitmap_tree.proofs.Fullness.{full-bound, full-whole}
+use Rattle.bitmap_tree.proofs.Summaries.{honest-word, honest-is}
 
 abbrev Inv-loop : tie.InvT-loop
-Inv-loop tree n₀ n = (1 ≤ n) × (n ≤ length tree) × ((m : ℕ) → m < n → 1 ≤ m → summarised tree m)
+Inv-loop tree end p₀ p = (p ≤ (length tree - 1) / 16) × ((q : ℕ) → q < p → honest tree q)
 
 abbrev μ-loop : tie.MeasureT-loop
-μ-loop tree n₀ n = length tree - n
+μ-loop tree end p₀ p = (length tree - 1) / 16 - p
+
+sub-end : tie.Need-sub-end Inv-loop μ-loop
+sub-end c = let b = full-bound _ (c .before .pre) in omega arith
 
 loop-holds : tie.Need-loop-holds Inv-loop μ-loop
-loop-holds c = (omega arith, c .before .pre, λ m h l. absurd (omega arith))
+loop-holds c = (omega arith, λ q l. absurd (omega arith))
 
-read-requires : tie.Need-read-requires Inv-loop μ-loop
-read-requires c κs = search needs
+summary-requires : tie.Need-summary-requires Inv-loop μ-loop
+summary-requires c κs = let b = full-bound _ (c .before .before .before .pre) in let w = full-whole _ (c .before .before .before .pre) in omega arith
 
-mul-some : tie.Need-mul-some Inv-loop μ-loop
-mul-some c = search needs
+mul-if1 : tie.Need-mul-if1 Inv-loop μ-loop
+mul-if1 c = let b = full-bound _ (c .before .before .before .before .pre) in omega arith
 
-shared-slice-read-some : tie.Need-shared-slice-read-some Inv-loop μ-loop
-shared-slice-read-some c = search needs
-
-some-requires : tie.Need-some-requires Inv-loop μ-loop
-some-requires c κs = search needs
+shared-slice-read-if1 : tie.Need-shared-slice-read-if1 Inv-loop μ-loop
+shared-slice-read-if1 c = let b = full-bound _ (c .before .before .before .before .before .pre) in omega arith
 
 returns : tie.Need-returns Inv-loop μ-loop
 returns c =
-    let i = c .before .before .before .before .before .loop .inv in
+    let i = c .before .before .before .before .loop .inv in
     record {
-      low = i .0;
-      high = i .1;
-      before = λ m l h. i .2 m h l;
-      fails = λ h s. c .if1 .taken (c .before .before .before .read .ensures ∙ s ∙ sym (c .before .some .ensures));
+      low = omega arith;
+      high = i .0;
+      before = λ q l h. i .1 q h;
+      fails = λ h s. c .if1 .taken (honest-is _ (c .before .before .before .before .loop .p) _ (c .before .shared-slice-known2 .given (c .before .before .before .before .loop .p) .fits) (c .before .before .summary .ensures) s);
     }
 
-add-n : tie.Need-add-n Inv-loop μ-loop
-add-n c = search needs
+add-p : tie.Need-add-p Inv-loop μ-loop
+add-p c = search needs
 
 loop-less : tie.Need-loop-less Inv-loop μ-loop
 loop-less c = search needs
 
 loop-again : tie.Need-loop-again Inv-loop μ-loop
 loop-again c =
-    let i = c .before .before .before .before .before .loop .inv in
-    (omega arith, omega arith, below-more _ _ (i .2) (λ _. sym (c .before .before .before .read .ensures) ∙ c .if1 .left ∙ c .before .some .ensures))
+    let i = c .before .before .before .before .loop .inv in
+    (omega arith, below-more _ (c .before .before .before .before .loop .p) (i .1) (honest-word _ (c .before .before .before .before .loop .p) _ (c .before .before .summary .ensures) (c .if1 .left)))
 
 returns-2 : tie.Need-returns-2 Inv-loop μ-loop
 returns-2 c =
     let i = c .before .loop .inv in
-    record { low = i .0; high = i .1; before = λ m l h. i .2 m h l; fails = λ h s. omega arith }
+    record { low = omega arith; high = i .0; before = λ q l h. i .1 q h; fails = λ h s. omega arith }
 
 pub first-lie-spec : {M : Type 1} → statement M
 first-lie-spec =
@@ -62,13 +63,13 @@ first-lie-spec =
     (tie.spec
     Inv-loop
     μ-loop
+    sub-end
     loop-holds
-    read-requires
-    mul-some
-    shared-slice-read-some
-    some-requires
+    summary-requires
+    mul-if1
+    shared-slice-read-if1
     returns
-    add-n
+    add-p
     loop-less
     loop-again
     returns-2)

@@ -1,8 +1,8 @@
--- `names::request` is safe and ends: the measure is how many requests are left. Assumes nothing.
+-- `request` is safe and ends: the measure is how many requests are left. Assumes nothing.
 use Prim.Native.Nat.{_-_}
 use native.Mathlib.Omega.{arith}
-use Rattle.bitmap_requests.proofs.names.request.Statement.{statement}
-use Rattle.bitmap_requests.proofs.names.request.Tie as tie
+use Rattle.bitmap_names.proofs.request.Statement.{statement}
+use Rattle.bitmap_names.proofs.request.Tie as tie
 
 abbrev Inv-loop : tie.InvT-loop
 Inv-loop line k₀ k = Unit {0}

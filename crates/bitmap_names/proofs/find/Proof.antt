@@ -1,9 +1,9 @@
--- `names::find` is safe and ends: the measure is what is left of the text. Assumes nothing.
+-- `find` is safe and ends: the measure is what is left of the text. Assumes nothing.
 use Prim.Native.Nat.{_-_}
 use lib.ListN.{length}
 use native.Mathlib.Omega.{arith}
-use Rattle.bitmap_requests.proofs.names.find.Statement.{statement}
-use Rattle.bitmap_requests.proofs.names.find.Tie as tie
+use Rattle.bitmap_names.proofs.find.Statement.{statement}
+use Rattle.bitmap_names.proofs.find.Tie as tie
 
 abbrev Inv-loop : tie.InvT-loop
 Inv-loop text at stop e₀ e = Unit {0}

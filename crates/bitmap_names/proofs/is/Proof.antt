@@ -1,9 +1,9 @@
--- `names::is` is safe and ends: the measure is what is left of the list. Assumes nothing.
+-- `is` is safe and ends: the measure is what is left of the list. Assumes nothing.
 use Prim.Native.Nat.{_-_}
 use lib.ListN.{length}
 use native.Mathlib.Omega.{arith}
-use Rattle.bitmap_requests.proofs.names.is.Statement.{statement}
-use Rattle.bitmap_requests.proofs.names.is.Tie as tie
+use Rattle.bitmap_names.proofs.is.Statement.{statement}
+use Rattle.bitmap_names.proofs.is.Tie as tie
 
 abbrev Inv-loop : tie.InvT-loop
 Inv-loop list from line i₀ k₀ i k = Unit {0}

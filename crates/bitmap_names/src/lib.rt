@@ -1,4 +1,5 @@
-// The names of requests and of answers, in lists: each name ends at a comma, in the order of its numbers.
+// The names of the requests on a bitmap and of the answers, for the programs that test it: in lists, in the
+// order of their numbers, each with a comma behind it.
 
 pub const REQUESTS: [u8; 100] =
     *b"words_for,cap,count_free,any,test,next,check,reset,alloc,alloc_contiguous,dealloc,insert,remove,put,";

@@ -1,8 +1,8 @@
--- `names::start` is safe and ends: the measure is how many names are left. Assumes nothing.
+-- `start` is safe and ends: the measure is how many names are left. Assumes nothing.
 use Prim.Native.Nat.{_-_}
 use native.Mathlib.Omega.{arith}
-use Rattle.bitmap_requests.proofs.names.start.Statement.{statement}
-use Rattle.bitmap_requests.proofs.names.start.Tie as tie
+use Rattle.bitmap_names.proofs.start.Statement.{statement}
+use Rattle.bitmap_names.proofs.start.Tie as tie
 
 abbrev Inv-loop : tie.InvT-loop
 Inv-loop list k at₀ i₀ at i = Unit {0}
