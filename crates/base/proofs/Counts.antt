@@ -5,11 +5,6 @@ use native.Mathlib.Nat.{suc-mul}
 use native.Mathlib.Omega.{arith}
 use Rattle.base.specs.Ranges.{Outside, howMany}
 
--- one number more
-pub many-step : (f : ℕ → ℕ) (n : ℕ) → howMany f (suc n) ≡ howMany f n + f n
-unfolding howMany
-many-step f n = refl
-
 -- the numbers below n counted from the first one on
 pub many-first : (f : ℕ → ℕ) (n : ℕ) → howMany f (suc n) ≡ f 0 + howMany (λ k. f (suc k)) n
 unfolding howMany

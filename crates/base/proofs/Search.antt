@@ -7,10 +7,6 @@ use Rattle.base.specs.Search.{Stops, Since}
 
 -- ---- upwards
 
--- nothing has been tried yet
-pub stops-start : {P : ℕ → Type 0} (a : ℕ) → Stops P a a a
-stops-start a = record { low = omega arith; high = omega arith; before = λ k l h. absurd (omega arith); fails = λ h. absurd (omega arith) }
-
 -- two answers to one search: neither is before the other
 no-sooner : {P : ℕ → Type 0} {a b r s : ℕ} → Stops P a b r → Stops P a b s → r < s → ⊥
 no-sooner {r = r} x y l = let lo = x .low in let hi = y .high in x .fails (omega arith) (y .before r lo l)

@@ -2,7 +2,6 @@
 use mathlib.Core.Path.{_≡_, refl, ap, _∙_}
 use Prim.Native.Nat.{ℕ, zero, suc, _+_, _-_, _*_, _/_, _^_, _≤_, _<_}
 use native.Mathlib.Nat.{pow-succ', pow-le-pow-right}
-use native.Mathlib.Decide.{decLt}
 use native.Mathlib.Numerals.{add-one}
 use native.Mathlib.Omega.{arith}
 use lib.Dec.{lit<}
@@ -34,14 +33,6 @@ level-exists (suc d) =
 -- for every power from 1 to 15 there is a full tree of so many frames
 pub full-exists : (d : ℕ) → 0 < d → d ≤ 15 → (w : ℕ) × Full w × (15 * w + 1 ≡ 16 ^ d)
 full-exists d p l = let r = level-exists d in (r .0, record { depth = d; some = p; few = l; count = r .1 }, r .1)
-
--- where one number of words is less than another, so is the number of words of the tree one higher than the first, or it is that tree
-pub level-below : (f e w d : ℕ) → 15 * f + 1 ≡ 16 ^ e → 15 * w + 1 ≡ 16 ^ d → f < w → 16 * f + 1 ≤ w
-level-below f e w d hf hw l = go (decLt e d)
-  where
-    go : Dec (e < d) → 16 * f + 1 ≤ w
-    go (yes h) = let a = pow-le (e + 1) d (omega arith) in let b = level-next f e hf in omega arith
-    go (no g) = let a = pow-le d e (omega arith) in omega arith
 
 -- the words above the frames, and the one at the root: the frames begin at the first bit of a word
 pub full-whole : (w : ℕ) → Full w → w ≡ 16 * ((w - 1) / 16) + 1

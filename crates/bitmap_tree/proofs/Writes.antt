@@ -13,16 +13,6 @@ use Rattle.bitmap_tree.specs.Tree.{nodeBit}
 use Rattle.bitmap_tree.specs.Writes.{Painted}
 use Rattle.bitmap_tree.proofs.Nodes.{bit-in, some-min}
 
--- nothing written
-pub painted-none : (t : List ℕ) (a v : ℕ) → Painted t a a v t
-painted-none t a v = record {
-  long = refl;
-  inside = λ k l h. absurd (omega arith);
-  outside = λ k p o. refl;
-  words = λ n o. refl;
-  whole = λ n l h. absurd (omega arith);
-}
-
 -- a word whose sixteen bits are all v
 pub word-whole : (r v : ℕ) → r < 65536 → v < 2 → ((k : ℕ) → k < 16 → bit r k ≡ v) → min 1 r ≡ v
 word-whole r zero f h is = let z : r ≡ 0 = all-zero 16 r f is in omega arith

@@ -1,5 +1,6 @@
 // The functions that programs in other languages link: numbers, and pointers with lengths. Each
-// answers 0 or a reason, and writes its value through the last pointer, which a refusal leaves alone.
+// answers 0 or a reason, and writes its value through the last pointer, which a refusal leaves alone;
+// `rf_bitmap_check` writes the word that lies.
 // Nothing is demanded of the caller beyond the types.
 ghost use mathlib.Core.Path.{_≡_};
 ghost use Rattle.replayframes.specs.Bitmap.{rangeCode, WordsCode, CapCode, CountCode, AnyCode, TestCode, NextCode, CheckCode, ResetCode, AllocCode, RunCode, DeallocCode, InsertCode, RemoveCode};
