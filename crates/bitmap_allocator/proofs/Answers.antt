@@ -7,23 +7,16 @@ use native.Mathlib.Omega.{arith}
 use lib.ListN.{length, getD}
 use Rattle.base.specs.Search.{Stops}
 use Rattle.base.proofs.Search.{some-fails}
-use Rattle.bitmap_tree.specs.Tree.{nodeBit, free, Full, summarised, honest, Agree}
-use Rattle.bitmap_tree.specs.Writes.{Painted, Changed}
+use Rattle.bitmap_tree.specs.Tree.{nodeBit, Full, summarised, honest, Agree}
+use Rattle.bitmap_tree.specs.Writes.{Painted}
 use Rattle.bitmap_tree.proofs.Fullness.{full-bound, full-whole}
-use Rattle.bitmap_tree.proofs.Summaries.{root-none, some-under, Words16}
-use Rattle.bitmap_search.specs.Heights.{Under}
-use Rattle.bitmap_search.specs.Found.{NoneFrom}
-use Rattle.bitmap_search.proofs.Descent.{under-root}
+use Rattle.bitmap_tree.proofs.Summaries.{some-under, Words16}
 use Rattle.bitmap_allocator.specs.Looks.{HasFree, LowestLie}
-use Rattle.bitmap_allocator.specs.Changes.{Reset, Took}
+use Rattle.bitmap_allocator.specs.Changes.{Reset}
 
 -- the size of a tree is the size of its frames
 pub words-once : (frames w : ℕ) → 15 * w + 1 ≡ frames → (frames - 1) / 15 ≡ w
 words-once frames w e = omega arith
-
--- where the root is 0 no frame is free
-pub root-says-none : (t : List ℕ) → Full (length t) → getD t 0 0 ≡ 0 → Agree t → NoneFrom t 0
-root-says-none t f e a m l h = let b = full-bound (length t) f in root-none t a e (length t + m) (omega arith) (omega arith)
 
 -- where the root is not 0 some frame is free
 pub root-says-some : (t : List ℕ) → Full (length t) → Words16 t → (getD t 0 0 ≡ 0 → ⊥) → Agree t → HasFree t
@@ -75,17 +68,3 @@ wiped t t′ f p =
   where
     zero : {x : ℕ} → x ≡ 0 → 0 ≡ x
     zero e = omega arith
-
--- the lowest frame found under the root, and taken
-pub took : (t : List ℕ) (j : ℕ) (t′ : List ℕ) → Full (length t) → Under t 0 j → Changed t (j - length t) (j - length t + 1) 0 t′ → Took t (j - length t) t′
-took t j t′ f u c =
-    let lo = u .low in
-    let hi = u .high in
-    let e : length t + (j - length t) ≡ j = omega arith in
-    record {
-      full = f;
-      within = omega arith;
-      was = rw e (u .set);
-      lowest = under-root t j f u;
-      change = c;
-    }

@@ -9,7 +9,6 @@ ghost use Prim.Native.Nat.{_<_};
 ghost use Rattle.bitmap_allocator.specs.Looks.{CapSays, CountSays, AnySays, TestSays, NextSays, CheckSays, WordsSays};
 ghost use Rattle.bitmap_allocator.specs.Changes.{ResetSays, AllocSays, RunSays, DeallocSays, RangeSays};
 use bitmap_runs::Searched;
-use bitmap_search::Down;
 use bitmap_search::Next;
 
 // How many words a tree has.
@@ -230,18 +229,15 @@ pub fn reset(tree: &mut [u16]) -> Wiped
 pub fn alloc(tree: &mut [u16]) -> Allocated
     ensures { λ r. ⌜ AllocSays (now (tree .entry)) (now (tree .exit)) r ⌝ }
 {
-    let w = tree.len();
-    if !bitmap_tree::is_full(w) {
+    if !bitmap_tree::is_full(tree.len()) {
         return Allocated::NotFull;
     }
-    if tree[0] == 0 {
-        return Allocated::NoRoom;
-    }
-    match bitmap_search::descend(tree, 0) {
-        Down::Lie => Allocated::Corrupt,
-        Down::To(j) => {
-            bitmap_tree::change_one(tree, j - w, 0);
-            Allocated::Frame(j - w)
+    match bitmap_search::lowest(tree) {
+        Next::Nothing => Allocated::NoRoom,
+        Next::Corrupt => Allocated::Corrupt,
+        Next::Frame(k) => {
+            bitmap_tree::change_one(tree, k, 0);
+            Allocated::Frame(k)
         }
     }
 }

@@ -9,9 +9,10 @@ use Rattle.bits16.specs.Bits.{bit, Lowest}
 use Rattle.bits16.proofs.Laws.{lowest-set}
 use Rattle.bitmap_tree.specs.Tree.{nodeBit, free, Full, Agree}
 use Rattle.bitmap_tree.proofs.Nodes.{child-bit, bit-in, bit-clear}
-use Rattle.bitmap_tree.proofs.Fullness.{level-next}
-use Rattle.bitmap_tree.proofs.Summaries.{set-some}
+use Rattle.bitmap_tree.proofs.Fullness.{full-bound, level-next}
+use Rattle.bitmap_tree.proofs.Summaries.{root-none, set-some}
 use Rattle.bitmap_search.specs.Heights.{up, Height, Some, Under}
+use Rattle.bitmap_search.specs.Found.{IsNext, NoneFrom}
 use Rattle.bitmap_search.proofs.Heights.{up-set, up-row, deeper, at-bottom, not-bottom, child-height, root-height}
 
 -- node n stands under n₀ or under a node behind it: what is not before n is not before n₀, and where the summaries agree, the other way
@@ -86,11 +87,21 @@ pub never-none : (t : List ℕ) (n₀ n : ℕ) → Descending t n₀ n → n < l
 never-none t n₀ zero d l a e = d .some .root refl e
 never-none t n₀ (suc n) d l a e = set-some t (suc n) a (omega arith) l (d .some .set (omega arith)) e
 
+-- where the root is 0 no frame is free
+pub root-says-none : (t : List ℕ) → Full (length t) → getD t 0 0 ≡ 0 → Agree t → NoneFrom t 0
+root-says-none t f e a m l h = let b = full-bound (length t) f in root-none t a e (length t + m) (omega arith) (omega arith)
+
 -- the lowest frame under the root is the lowest of all
-pub under-root : (t : List ℕ) (r : ℕ) → Full (length t) → Under t 0 r → Agree t → (m : ℕ) → m < r - length t → free t m ≡ 0
-under-root t r f u a m l =
+pub under-root : (t : List ℕ) (r : ℕ) → Full (length t) → Under t 0 r → IsNext t 0 (r - length t)
+under-root t r f u =
     let lo = u .low in
     let hi = u .high in
-    bit-clear t (length t + m) (λ s.
-    let b = u .first (f .depth) (root-height (length t) f) a (length t + m) (omega arith) (omega arith) s (omega arith) in
-    omega arith)
+    let e : length t + (r - length t) ≡ r = omega arith in
+    record {
+      within = omega arith;
+      from = omega arith;
+      is = rw e (u .set);
+      first = λ a m g l. bit-clear t (length t + m) (λ s.
+          let b = u .first (f .depth) (root-height (length t) f) a (length t + m) (omega arith) (omega arith) s (omega arith) in
+          omega arith);
+    }

@@ -1,68 +1,70 @@
--- `bitmap_allocator::alloc` meets its contract. Assumes nothing.
 use borrow.Author.Needs.{needs}
 use Rattle.bitmap_allocator.proofs.alloc.Statement.{statement}
 use Rattle.bitmap_allocator.proofs.alloc.Tie as tie
+use Rattle.bitmap_allocator.proofs.alloc.Reads as reads
+use Rattle.bitmap_allocator.proofs.alloc.Lts as lts
+use Rattle.bitmap_search.proofs.lowest.Reads as lowest-reads
+use Rattle.bitmap_tree.proofs.change_one.Reads as change-one-reads
+use Rattle.bitmap_tree.proofs.is_full.Reads as is-full-reads
 use mathlib.Core.Path.{refl}
-use Prim.Native.Nat.{_-_}
 use native.Mathlib.Omega.{arith}
-use Rattle.base.proofs.Says.{told, refused, not-refused}
 use lib.ListN.{length}
+use Rattle.base.proofs.Says.{told, refused, not-refused}
 use Rattle.bitmap_tree.specs.Tree.{Full}
 use Rattle.bitmap_tree.proofs.Fullness.{full-bound}
-use Rattle.bitmap_search.specs.Found.{DownSays}
-use Rattle.bitmap_allocator.proofs.Answers.{root-says-none, took}
+use Rattle.bitmap_search.specs.Found.{LowestSays}
 
+-- src/lib.rt:232:9
 is-full-requires : tie.Need-is-full-requires
 is-full-requires c κs = search needs
 
+-- src/lib.rt:233:9
 returns : tie.Need-returns
 returns c = (refl, refused (c .before .is-full .result) (c .if1 .taken) (c .before .is-full .ensures))
 
-slice-read-if2 : tie.Need-slice-read-if2
-slice-read-if2 c = let f : Full (length (c .before .before .before .before .args .tree .now)) = not-refused (c .before .before .is-full .result) (c .before .if1 .left) (c .before .before .is-full .ensures) in
-    let b = full-bound _ f in
-    omega arith
+-- src/lib.rt:235:11
+lowest-requires : tie.Need-lowest-requires
+lowest-requires c κs = not-refused (c .before .before .is-full .result) (c .before .if1 .left) (c .before .before .is-full .ensures)
 
-returns-2 : tie.Need-returns-2
-returns-2 c = let f : Full (length (c .before .before .before .before .before .args .tree .now)) = not-refused (c .before .before .before .is-full .result) (c .before .before .if1 .left) (c .before .before .before .is-full .ensures) in
-    let b = full-bound _ f in
-    record { kept = refl; full = f; root = c .if2 .taken; none = root-says-none _ f (c .if2 .taken) }
-
-descend-requires : tie.Need-descend-requires
-descend-requires c κs = let f : Full (length (c .before .before .before .before .before .before .args .tree .now)) = not-refused (c .before .before .before .before .is-full .result) (c .before .before .before .if1 .left) (c .before .before .before .before .is-full .ensures) in
-    let b = full-bound _ f in
-    (omega arith, b .0, b .1, record { set = λ l. absurd (omega arith); root = λ _. c .before .if2 .left })
-
+-- src/lib.rt:236:26
 enum-told : tie.Need-enum-told
 enum-told c = search needs
 
-enum-known-j : tie.Need-enum-known-j
-enum-known-j c = search needs
+-- src/lib.rt:237:26
+enum-told-2 : tie.Need-enum-told-2
+enum-told-2 c = search needs
 
-sub-change-one : tie.Need-sub-change-one
-sub-change-one c = let u = told (DownSays _ _) (c .before .before .j .given .1) (c .before .before .before .before .descend .ensures) in u .low
+-- src/lib.rt:238:21
+enum-known-k : tie.Need-enum-known-k
+enum-known-k c = search needs
 
+-- src/lib.rt:239:13
 change-one-requires : tie.Need-change-one-requires
-change-one-requires c κs = let f : Full (length (c .before .before .before .before .before .before .before .before .before .before .before .args .tree .now)) = not-refused (c .before .before .before .before .before .before .before .before .before .is-full .result) (c .before .before .before .before .before .before .before .before .if1 .left) (c .before .before .before .before .before .before .before .before .before .is-full .ensures) in
-    let b = full-bound _ f in
-    let u = told (DownSays _ _) (c .before .before .j .given .1) (c .before .before .before .before .descend .ensures) in
-    let h = u .high in
-    (omega arith, b .0, b .1, omega arith)
+change-one-requires c κs = let f : Full (length (c .before .before .before .before .before .before .before .before .before .args .tree .now)) = not-refused (c .before .before .before .before .before .before .before .is-full .result) (c .before .before .before .before .before .before .if1 .left) (c .before .before .before .before .before .before .before .is-full .ensures) in let b = full-bound _ f in let u = told (LowestSays _) (c .before .before .k .given .1) (c .before .before .before .before .lowest .ensures) in let h = u .within in (omega arith, b .0, b .1, omega arith)
 
-sub-t15 : tie.Need-sub-t15
-sub-t15 c = let u = told (DownSays _ _) (c .before .before .before .before .before .j .given .1) (c .before .before .before .before .before .before .before .descend .ensures) in u .low
-
+-- src/lib.rt:229:1
 same-length : tie.Need-same-length
 same-length c = search needs
 
-returns-3 : tie.Need-returns-3
-returns-3 c = record { kept = refl; full = not-refused (c .before .before .before .before .before .before .before .is-full .result) (c .before .before .before .before .before .before .if1 .left) (c .before .before .before .before .before .before .before .is-full .ensures); lie = told (DownSays _ _) (c .enum-told .given .1) (c .before .before .descend .ensures) }
+-- src/lib.rt:229:1
+returns-2 : tie.Need-returns-2
+returns-2 c = let e = told (LowestSays _) (c .enum-told .given .1) (c .before .before .lowest .ensures) in record { kept = refl; full = not-refused (c .before .before .before .before .before .is-full .result) (c .before .before .before .before .if1 .left) (c .before .before .before .before .before .is-full .ensures); root = e .0; none = e .1 }
 
+-- src/lib.rt:229:1
 same-length-2 : tie.Need-same-length-2
 same-length-2 c = search needs
 
+-- src/lib.rt:229:1
+returns-3 : tie.Need-returns-3
+returns-3 c = record { kept = refl; full = not-refused (c .before .before .before .before .before .is-full .result) (c .before .before .before .before .if1 .left) (c .before .before .before .before .before .is-full .ensures); lie = told (LowestSays _) (c .enum-told2 .given .1) (c .before .before .lowest .ensures) }
+
+-- src/lib.rt:229:1
+same-length-3 : tie.Need-same-length-3
+same-length-3 c = search needs
+
+-- src/lib.rt:229:1
 returns-4 : tie.Need-returns-4
-returns-4 c = took _ _ _ (not-refused (c .before .before .before .before .before .before .before .before .before .before .before .before .is-full .result) (c .before .before .before .before .before .before .before .before .before .before .before .if1 .left) (c .before .before .before .before .before .before .before .before .before .before .before .before .is-full .ensures)) (told (DownSays _ _) (c .before .before .before .before .before .j .given .1) (c .before .before .before .before .before .before .before .descend .ensures)) (c .before .before .change-one .ensures)
+returns-4 c = let u = told (LowestSays _) (c .before .before .before .before .before .k .given .1) (c .before .before .before .before .before .before .before .lowest .ensures) in record { full = not-refused (c .before .before .before .before .before .before .before .before .before .before .is-full .result) (c .before .before .before .before .before .before .before .before .before .if1 .left) (c .before .before .before .before .before .before .before .before .before .before .is-full .ensures); within = u .within; was = u .is; lowest = λ a m l. u .first a m (omega arith) l; change = c .before .before .change-one .ensures }
 
 pub alloc-spec : {M : Type 1} → statement M
 alloc-spec =
@@ -70,15 +72,14 @@ alloc-spec =
     (tie.spec
     is-full-requires
     returns
-    slice-read-if2
-    returns-2
-    descend-requires
+    lowest-requires
     enum-told
-    enum-known-j
-    sub-change-one
+    enum-told-2
+    enum-known-k
     change-one-requires
-    sub-t15
     same-length
-    returns-3
+    returns-2
     same-length-2
+    returns-3
+    same-length-3
     returns-4)

@@ -9,7 +9,8 @@ use Rattle.base.proofs.Says.{refused, not-refused}
 use Rattle.bitmap_tree.specs.Tree.{Full}
 use Rattle.bitmap_tree.proofs.Fullness.{full-bound}
 use Rattle.bitmap_tree.proofs.Summaries.{Words16}
-use Rattle.bitmap_allocator.proofs.Answers.{root-says-none, root-says-some}
+use Rattle.bitmap_search.proofs.Descent.{root-says-none}
+use Rattle.bitmap_allocator.proofs.Answers.{root-says-some}
 
 is-full-requires : tie.Need-is-full-requires
 is-full-requires c κs = search needs
