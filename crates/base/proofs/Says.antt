@@ -7,7 +7,16 @@ use Rattle.base.specs.Says.{Says}
 pub told : {A : Type 0} (P : A → Type 0) {x y : A} → x ≡ y → P x → P y
 told P e p = subst P e p
 
--- what a function says yes or no to, where the caller asked `!answer`
+-- what a function says yes or no to
+pub said : {P : Type 0} (b : Bool) → b ≡ true → Says b P → P
+said true e s = s
+said false e s = absurd (true≢false (sym e))
+
+pub unsaid : {P : Type 0} (b : Bool) → b ≡ false → Says b P → P → ⊥
+unsaid false e s = s
+unsaid true e s = absurd (true≢false e)
+
+-- the same, where the caller asked `!answer`
 pub not-refused : {P : Type 0} (b : Bool) → not b ≡ false → Says b P → P
 not-refused true e s = s
 not-refused false e s = absurd (true≢false e)

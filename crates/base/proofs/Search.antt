@@ -19,6 +19,24 @@ stops-once {r = r} {s = s} x y = go (decLt r s) (decLt s r)
     go (no g) (yes l) = absurd (no-sooner y x l)
     go (no g) (no h) = omega arith
 
+-- a search that has passed no number
+pub stops-none : {P : ℕ → Type 0} (a : ℕ) → Stops P a a a
+stops-none a = record { low = omega arith; high = omega arith; before = λ k l h. absurd (omega arith); fails = λ l. absurd (omega arith) }
+
+-- a search that has passed all numbers up to k passes k as well
+pub stops-more : {P : ℕ → Type 0} {a k : ℕ} → Stops P a k k → P k → Stops P a (k + 1) (k + 1)
+stops-more {P} {a} {k} s p =
+    let low = s .low in
+    record { low = omega arith; high = omega arith; before = λ m l h. at m l (ℕ-discrete m k) h; fails = λ l. absurd (omega arith) }
+  where
+    at : (m : ℕ) → a ≤ m → Dec (m ≡ k) → m < k + 1 → P m
+    at m l (yes e) h = rw e p
+    at m l (no d) h = s .before m l (omega (arith, d))
+
+-- a search that has passed all numbers up to k ends there
+pub stops-at : {P : ℕ → Type 0} {a k : ℕ} (b : ℕ) → Stops P a k k → k ≤ b → (k < b → P k → ⊥) → Stops P a b k
+stops-at b s l f = record { low = s .low; high = l; before = s .before; fails = f }
+
 -- ---- downwards
 
 no-lower : {P : ℕ → Type 0} {a b r s : ℕ} → Since P a b r → Since P a b s → r < s → ⊥
