@@ -1,0 +1,2 @@
+-- What the passes over all frames answer and change.
+pub mod Passes
