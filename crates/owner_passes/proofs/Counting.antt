@@ -11,7 +11,7 @@ use Rattle.base.specs.Ranges.{howMany}
 use Rattle.bitmap_tree.specs.Tree.{free}
 use Rattle.bitmap_tree.proofs.Nodes.{bit-clear}
 use Rattle.owners.specs.States.{State, State.Free, State.Reserved, State.Owned, state}
-use Rattle.owners.proofs.States.{state-told, owned-state, not-both}
+use Rattle.owners.proofs.States.{state-told}
 use Rattle.owner_passes.specs.Passes.{owns, one}
 
 -- a state that is the client's counts, and no other does

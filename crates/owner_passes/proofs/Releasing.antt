@@ -10,7 +10,7 @@ use Rattle.bitmap_tree.specs.Tree.{free, cap, Full}
 use Rattle.bitmap_tree.proofs.Nodes.{bit-lt}
 use Rattle.owners.specs.States.{State, State.Free, State.Reserved, State.Owned, state, Matched, Accounted}
 use Rattle.owners.specs.Writes.{Assigned, Became}
-use Rattle.owners.proofs.States.{free-state, owned-state}
+use Rattle.owners.proofs.States.{free-state, owned-state, not-reserved, client-not-reserved}
 use Rattle.owners.proofs.Writes.{became, still, free-right, has-place}
 use Rattle.owner_passes.specs.Passes.{Released}
 use Rattle.owner_passes.proofs.Counting.{other-byte}
@@ -97,8 +97,8 @@ module _ (t o : List ℕ) (c k a b : ℕ) (t′ o′ t″ o″ : List ℕ) (l : 
           decState : (m : ℕ) → Dec (free t′ m < 1)
           decState m = decLt (free t′ m) 1
           at : Dec (free t′ m < 1) → base + 4096 * (m + 1) < 2 ^ 64
-          at (yes u) = has-place base t′ o′ m (Owned c) q (omega arith) (owned-state t′ o′ m c (omega arith) (y .before m p h) l) (λ w. absurd (let z : _≡_ {A = ℕ} 0 1 = cc in omega arith))
-          at (no u) = has-place base t′ o′ m Free q (omega arith) (free-state t′ o′ m (let v = bit-lt t′ (length t′ + m) in omega (arith, u))) (λ w. absurd (let z : _≡_ {A = ℕ} 0 1 = cc in omega arith))
+          at (yes u) = has-place base t′ o′ m (Owned c) q (omega arith) (owned-state t′ o′ m c (omega arith) (y .before m p h) l) (client-not-reserved c)
+          at (no u) = has-place base t′ o′ m Free q (omega arith) (free-state t′ o′ m (let v = bit-lt t′ (length t′ + m) in omega (arith, u))) not-reserved
 
       freed : (m : ℕ) → m < b → state t o m ≡ Owned c → Dec (m < k) → Dec (m < a) → state t″ o″ m ≡ Free
       freed m h s (yes p) d = let g = x .low in now .others m (λ v w. omega arith) ∙ r .freed m p s

@@ -70,9 +70,12 @@ owned-state t o k c e f l =
 pub taken-state : (t o : List ℕ) (k : ℕ) → (state t o k ≡ Free → ⊥) → free t k ≡ 0
 taken-state t o k n = bit-clear t _ (λ e. n (free-state t o k e))
 
--- no frame is two things
-pub not-both : (c : ℕ) → Free ≡ Owned c → ⊥
-not-both c e = absurd (let z : _≡_ {A = ℕ} 0 1 = cc in omega arith)
+-- what is free or a client's is not reserved
+pub not-reserved : Free ≡ Reserved → ⊥
+not-reserved e = absurd (let z : _≡_ {A = ℕ} 0 1 = cc in omega arith)
+
+pub client-not-reserved : (c : ℕ) → Owned c ≡ Reserved → ⊥
+client-not-reserved c e = absurd (let z : _≡_ {A = ℕ} 0 1 = cc in omega arith)
 
 -- the same bit and byte are in order alike
 pub same-right : (base k b c b′ c′ : ℕ) → b′ ≡ b → c′ ≡ c → Right base k b c → Right base k b′ c′

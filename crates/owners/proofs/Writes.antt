@@ -13,7 +13,7 @@ use Rattle.bitmap_tree.specs.Writes.{Changed}
 use Rattle.bitmap_tree.proofs.Nodes.{bit-clear}
 use Rattle.owners.specs.States.{State, State.Free, State.Reserved, State.Owned, stateOf, state, HasOwner, Unowned, Matched, Placed, Right, rightAt, Accounted}
 use Rattle.owners.specs.Writes.{Filled, Assigned, Became}
-use Rattle.owners.proofs.States.{state-of, state-told, same-state, free-state, owned-state, same-right, not-both}
+use Rattle.owners.proofs.States.{state-of, state-told, same-state, free-state, owned-state, same-right}
 
 -- ---- bytes
 
@@ -111,3 +111,12 @@ free-unowned t o k n e = let x = state-told t o k (Owned (e .client)) (e .is) in
 -- a named frame that is taken has an owner
 pub named : (t o : List ℕ) (k : ℕ) → free t k ≡ 0 → getD o k 255 < 64 → HasOwner t o k
 named t o k e l = record { client = getD o k 255; is = owned-state t o k (getD o k 255) e refl l }
+
+-- a frame of which it can't be that no client owns it has an owner
+pub owner : (t o : List ℕ) (k : ℕ) → (Unowned t o k → ⊥) → HasOwner t o k
+owner t o k n = go (ℕ-discrete (free t k) 0) (decLt (getD o k 255) 64)
+  where
+    go : Dec (free t k ≡ 0) → Dec (getD o k 255 < 64) → HasOwner t o k
+    go (yes e) (yes l) = named t o k e l
+    go (yes e) (no g) = absurd (n (unnamed t o k (omega (arith, g))))
+    go (no d) x = absurd (n (free-unowned t o k d))
