@@ -66,6 +66,9 @@ pub owned-state : (t o : List ℕ) (k c : ℕ) → free t k ≡ 0 → getD o k 2
 owned-state t o k c e f l =
     state-of t o k ∙ of-owned (free t k) (getD o k 255) (λ q. omega arith) (omega arith) ∙ ap Owned f
 
+pub reserved-state : (t o : List ℕ) (k : ℕ) → free t k ≡ 0 → (getD o k 255 < 64 → ⊥) → state t o k ≡ Reserved
+reserved-state t o k e n = state-of t o k ∙ of-reserved (free t k) (getD o k 255) (λ q. omega arith) n
+
 -- a frame that is not free is taken
 pub taken-state : (t o : List ℕ) (k : ℕ) → (state t o k ≡ Free → ⊥) → free t k ≡ 0
 taken-state t o k n = bit-clear t _ (λ e. n (free-state t o k e))
