@@ -11,7 +11,7 @@ ghost use Rattle.owners.specs.States.{Matched, state, Placed, Right, rightAt};
 ghost use Rattle.owner_passes.specs.Passes.{owns, ownedBy, Released, Begun};
 
 // 1 if frame k is owned by the client c, and else 0.
-fn one_if_owned(tree: &[u16], owners: &[u8], k: usize, c: u8) -> usize
+pub fn one_if_owned(tree: &[u16], owners: &[u8], k: usize, c: u8) -> usize
     requires { ⌜ Matched (now tree) (now owners) × (k ≤ 15 * length (now tree)) × (c < 64) ⌝ }
     ensures { λ r. ⌜ r ≡ owns c (state (now (tree .entry)) (now (owners .entry)) k) ⌝ }
 {

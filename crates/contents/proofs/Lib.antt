@@ -1,0 +1,2 @@
+-- The laws of words wiped (`Words`).
+pub mod Words

@@ -1,0 +1,2 @@
+-- What stands in the frames.
+pub mod Contents
