@@ -35,16 +35,16 @@ module _ (base : ℕ) (t o : List ℕ) (c : ℕ) (t′ o′ : List ℕ) where
     accounted = λ g. still t o s (s + size) 0 c t′ o′ w base g (λ m l h. let p = x .placed in owned-right base m c (x .known .client) (omega arith));
   }
 
-  pub took-back : (addr k : ℕ) → Mine base t o c addr k → Assigned t o k (k + 1) 1 255 t′ o′ → TookBack base t o c addr t′ o′
-  took-back addr k x w = record {
+  unfoldable pub freed : (addr k : ℕ) → Mine base t o c addr k → Assigned t o k (k + 1) 1 255 t′ o′ → TookBack base t o c addr t′ o′
+  freed addr k x w = record {
     frame = k;
     mine = x;
     change = became t o k (k + 1) 1 255 t′ o′ w Free refl;
     accounted = λ a. still t o k (k + 1) 1 255 t′ o′ w base a (λ m l h. let e : m ≡ k = omega arith in free-right base m (rw e (has-place base t o k (Owned c) a (x .within) (x .owned) (client-not-reserved c))));
   }
 
-  pub took-run-back : (addr count k : ℕ) → RunMine base t o c addr count k → Assigned t o k (k + count) 1 255 t′ o′ → TookRunBack base t o c addr count t′ o′
-  took-run-back addr count k x w = record {
+  unfoldable pub run-freed : (addr count k : ℕ) → RunMine base t o c addr count k → Assigned t o k (k + count) 1 255 t′ o′ → TookRunBack base t o c addr count t′ o′
+  run-freed addr count k x w = record {
     first = k;
     mine = x;
     change = became t o k (k + count) 1 255 t′ o′ w Free refl;

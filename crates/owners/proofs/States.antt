@@ -2,13 +2,14 @@
 use mathlib.Core.Path.{_≡_, refl, sym, _∙_, ap, ap₂, subst}
 use mathlib.Core.List.{List}
 use mathlib.Core.Bool.{Bool, true, false}
-use Prim.Native.Nat.{ℕ, _<_}
+use Prim.Native.Nat.{ℕ, _+_, _≤_, _<_}
+use native.Mathlib.Decide.{ℕ-discrete, decLt}
 use native.Mathlib.Omega.{arith}
 use lib.Dec.{eqb, ltb}
-use lib.ListN.{getD}
+use lib.ListN.{length, getD, List·getD-eq-default}
 use borrow.Author.Tests.{ltb-true, ltb-false, eqb-true, lt-ltb, le-ltb, ne-eqb}
-use Rattle.bitmap_tree.specs.Tree.{free}
-use Rattle.bitmap_tree.proofs.Nodes.{bit-clear}
+use Rattle.bitmap_tree.specs.Tree.{free, cap}
+use Rattle.bitmap_tree.proofs.Nodes.{bit-clear, parent-none}
 use Rattle.owners.specs.States.{State, State.Free, State.Reserved, State.Owned, byTests, stateOf, state, Right}
 
 -- ---- of a bit and a byte
@@ -83,3 +84,19 @@ client-not-reserved c e = absurd (let z : _≡_ {A = ℕ} 0 1 = cc in omega arit
 -- the same bit and byte are in order alike
 pub same-right : (base k b c b′ c′ : ℕ) → b′ ≡ b → c′ ≡ c → Right base k b c → Right base k b′ c′
 same-right base k b c b′ c′ e f r = subst (λ (x : ℕ). Right base k x c′) (sym e) (subst (λ (x : ℕ). Right base k b x) (sym f) r)
+
+-- whether a frame is the client's can be told
+pub dec-owned : (t o : List ℕ) (k c : ℕ) → Dec (state t o k ≡ Owned c)
+dec-owned t o k c = go (ℕ-discrete (free t k) 0) (ℕ-discrete (getD o k 255) c) (decLt c 64)
+  where
+    go : Dec (free t k ≡ 0) → Dec (getD o k 255 ≡ c) → Dec (c < 64) → Dec (state t o k ≡ Owned c)
+    go (yes e) (yes f) (yes l) = yes (owned-state t o k c e f l)
+    go (no n) b l = no (λ s. n (bit-clear t _ (state-told t o k (Owned c) s .0)))
+    go (yes e) (no n) l = no (λ s. n (state-told t o k (Owned c) s .1))
+    go (yes e) (yes f) (no n) = no (λ s. n (state-told t o k (Owned c) s .2))
+
+-- behind the last frame nothing is free and nobody an owner
+pub behind-reserved : (t o : List ℕ) (k : ℕ) → length o ≡ cap t → cap t ≤ k → state t o k ≡ Reserved
+behind-reserved t o k e l =
+    let b : getD o k 255 ≡ 255 = List·getD-eq-default o 255 (omega arith) in
+    reserved-state t o k (parent-none t (length t + k) (List·getD-eq-default t 0 (omega arith))) (λ h. omega arith)

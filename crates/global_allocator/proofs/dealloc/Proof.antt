@@ -11,7 +11,7 @@ use lib.ListN.{length}
 use Rattle.base.proofs.Says.{told}
 use Rattle.bitmap_tree.proofs.Fullness.{full-bound}
 use Rattle.claims.specs.Returns.{MayFreeSays}
-use Rattle.global_allocator.proofs.Writes.{kept, took-back}
+use Rattle.global_allocator.proofs.Writes.{kept, freed}
 
 -- src/lib.rt:268:11
 may-free-requires : tie.Need-may-free-requires
@@ -51,7 +51,7 @@ same-length-4 c = c .before .before .before .before .assign-one .ensures .bytes 
 
 -- src/lib.rt:265:1
 returns-2 : tie.Need-returns-2
-returns-2 c = took-back _ _ _ _ _ _ _ _ (told (MayFreeSays _ _ _ _ _) (c .before .before .before .before .before .before .before .before .k .given .1) (c .before .before .before .before .before .before .before .before .before .before .may-free .ensures)) (c .before .before .before .before .assign-one .ensures)
+returns-2 c = freed _ _ _ _ _ _ _ _ (told (MayFreeSays _ _ _ _ _) (c .before .before .before .before .before .before .before .before .k .given .1) (c .before .before .before .before .before .before .before .before .before .before .may-free .ensures)) (c .before .before .before .before .assign-one .ensures)
 
 pub dealloc-spec : {M : Type 1} → statement M
 dealloc-spec =

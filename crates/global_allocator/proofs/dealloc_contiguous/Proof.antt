@@ -11,7 +11,7 @@ use lib.ListN.{length}
 use Rattle.base.proofs.Says.{told}
 use Rattle.bitmap_tree.proofs.Fullness.{full-bound}
 use Rattle.claims.specs.Returns.{MayFreeRunSays}
-use Rattle.global_allocator.proofs.Writes.{kept, took-run-back}
+use Rattle.global_allocator.proofs.Writes.{kept, run-freed}
 
 -- src/lib.rt:281:11
 may-free-run-requires : tie.Need-may-free-run-requires
@@ -55,7 +55,7 @@ same-length-4 c = c .before .before .before .before .assign .ensures .bytes .lon
 
 -- src/lib.rt:278:1
 returns-2 : tie.Need-returns-2
-returns-2 c = took-run-back _ _ _ _ _ _ _ _ _ (told (MayFreeRunSays _ _ _ _ _ _) (c .before .before .before .before .before .before .before .before .k .given .1) (c .before .before .before .before .before .before .before .before .before .before .may-free-run .ensures)) (c .before .before .before .before .assign .ensures)
+returns-2 c = run-freed _ _ _ _ _ _ _ _ _ (told (MayFreeRunSays _ _ _ _ _ _) (c .before .before .before .before .before .before .before .before .k .given .1) (c .before .before .before .before .before .before .before .before .before .before .may-free-run .ensures)) (c .before .before .before .before .assign .ensures)
 
 pub dealloc-contiguous-spec : {M : Type 1} → statement M
 dealloc-contiguous-spec =
