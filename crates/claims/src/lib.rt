@@ -170,7 +170,14 @@ pub fn find_frame(tree: &[u16], owners: &[u8], base: usize, c: u8) -> Offer
 
 // The lowest run of `size` free frames whose first is a multiple of 2 to the power of `align_log2`, for
 // the client c.
-pub fn find_run(tree: &[u16], owners: &[u8], base: usize, c: u8, size: usize, align_log2: usize) -> RunOffer
+pub fn find_run(
+    tree: &[u16],
+    owners: &[u8],
+    base: usize,
+    c: u8,
+    size: usize,
+    align_log2: usize,
+) -> RunOffer
     ensures { λ r. ⌜ OfferRunSays base (now (tree .entry)) (now (owners .entry)) c size «align_log2» r ⌝ }
 {
     match fitting(tree, owners, base) {
@@ -242,7 +249,14 @@ pub fn may_free(tree: &[u16], owners: &[u8], base: usize, c: u8, addr: usize) ->
 }
 
 // Whether the client c may give back the `count` frames from an address on.
-pub fn may_free_run(tree: &[u16], owners: &[u8], base: usize, c: u8, addr: usize, count: usize) -> MayFreeRun
+pub fn may_free_run(
+    tree: &[u16],
+    owners: &[u8],
+    base: usize,
+    c: u8,
+    addr: usize,
+    count: usize,
+) -> MayFreeRun
     ensures { λ r. ⌜ MayFreeRunSays base (now (tree .entry)) (now (owners .entry)) c addr count r ⌝ }
 {
     match fitting(tree, owners, base) {

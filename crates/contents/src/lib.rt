@@ -16,7 +16,11 @@ pub fn is_backed(owners: &[u8], words: &[u64]) -> bool
     if words.len() % 512 != 0 {
         return false;
     }
-    if words.len() / 512 <= owners.len() { true } else { false }
+    if words.len() / 512 <= owners.len() {
+        true
+    } else {
+        false
+    }
 }
 
 // Makes the words from p up to q 0.
@@ -111,7 +115,11 @@ fn is_clean(tree: &[u16], words: &[u64], k: usize) -> bool
         return true;
     }
     let end = 512 * k + 512;
-    if zero_until(words, 512 * k, end) == end { true } else { false }
+    if zero_until(words, 512 * k, end) == end {
+        true
+    } else {
+        false
+    }
 }
 
 // The first frame that is free and has a word that is not 0, or the number of frames with contents.

@@ -146,7 +146,15 @@ pub fn alloc(tree: &mut [u16], owners: &mut [u8], words: &[u64], base: usize, c:
 
 // Gives the client c the lowest run of `size` free frames whose first is a multiple of 2 to the power of
 // `align_log2`; all of them are empty.
-pub fn alloc_contiguous(tree: &mut [u16], owners: &mut [u8], words: &[u64], base: usize, c: u8, size: usize, align_log2: usize) -> RunGiven
+pub fn alloc_contiguous(
+    tree: &mut [u16],
+    owners: &mut [u8],
+    words: &[u64],
+    base: usize,
+    c: u8,
+    size: usize,
+    align_log2: usize,
+) -> RunGiven
     ensures { λ r. ⌜ RunSays base (now (tree .entry)) (now (owners .entry)) (now (words .entry)) c size «align_log2» (now (tree .exit)) (now (owners .exit)) r ⌝ }
 {
     if !contents::is_backed(owners, words) {
@@ -159,7 +167,14 @@ pub fn alloc_contiguous(tree: &mut [u16], owners: &mut [u8], words: &[u64], base
 }
 
 // The client c gives back the frame at an address, which is cleared first.
-pub fn dealloc(tree: &mut [u16], owners: &mut [u8], words: &mut [u64], base: usize, c: u8, addr: usize) -> Returned
+pub fn dealloc(
+    tree: &mut [u16],
+    owners: &mut [u8],
+    words: &mut [u64],
+    base: usize,
+    c: u8,
+    addr: usize,
+) -> Returned
     ensures { λ r. ⌜ DeallocSays base (now (tree .entry)) (now (owners .entry)) (now (words .entry)) c addr (now (tree .exit)) (now (owners .exit)) (now (words .exit)) r ⌝ }
 {
     if !contents::is_backed(owners, words) {
@@ -179,7 +194,15 @@ pub fn dealloc(tree: &mut [u16], owners: &mut [u8], words: &mut [u64], base: usi
 }
 
 // The client c gives back the `count` frames from an address on, all or none; they are cleared first.
-pub fn dealloc_contiguous(tree: &mut [u16], owners: &mut [u8], words: &mut [u64], base: usize, c: u8, addr: usize, count: usize) -> RunReturned
+pub fn dealloc_contiguous(
+    tree: &mut [u16],
+    owners: &mut [u8],
+    words: &mut [u64],
+    base: usize,
+    c: u8,
+    addr: usize,
+    count: usize,
+) -> RunReturned
     ensures { λ r. ⌜ DeallocRunSays base (now (tree .entry)) (now (owners .entry)) (now (words .entry)) c addr count (now (tree .exit)) (now (owners .exit)) (now (words .exit)) r ⌝ }
 {
     if !contents::is_backed(owners, words) {
@@ -200,7 +223,14 @@ pub fn dealloc_contiguous(tree: &mut [u16], owners: &mut [u8], words: &mut [u64]
 }
 
 // Makes the frames from `from` up to `to` free and empty, none of which a client owns.
-pub fn insert(tree: &mut [u16], owners: &mut [u8], words: &mut [u64], base: usize, from: usize, to: usize) -> Opened
+pub fn insert(
+    tree: &mut [u16],
+    owners: &mut [u8],
+    words: &mut [u64],
+    base: usize,
+    from: usize,
+    to: usize,
+) -> Opened
     ensures { λ r. ⌜ InsertSays base (now (tree .entry)) (now (owners .entry)) (now (words .entry)) from to (now (tree .exit)) (now (owners .exit)) (now (words .exit)) r ⌝ }
 {
     if !contents::is_backed(owners, words) {
@@ -223,7 +253,14 @@ pub fn insert(tree: &mut [u16], owners: &mut [u8], words: &mut [u64], base: usiz
 }
 
 // Reserves the frames from `from` up to `to`, none of which a client owns.
-pub fn remove(tree: &mut [u16], owners: &mut [u8], words: &[u64], base: usize, from: usize, to: usize) -> Closed
+pub fn remove(
+    tree: &mut [u16],
+    owners: &mut [u8],
+    words: &[u64],
+    base: usize,
+    from: usize,
+    to: usize,
+) -> Closed
     ensures { λ r. ⌜ RemoveSays base (now (tree .entry)) (now (owners .entry)) (now (words .entry)) from to (now (tree .exit)) (now (owners .exit)) r ⌝ }
 {
     if !contents::is_backed(owners, words) {
@@ -236,7 +273,13 @@ pub fn remove(tree: &mut [u16], owners: &mut [u8], words: &[u64], base: usize, f
 }
 
 // Makes every frame of the client c free; they are cleared first.
-pub fn release_all(tree: &mut [u16], owners: &mut [u8], words: &mut [u64], base: usize, c: u8) -> Left
+pub fn release_all(
+    tree: &mut [u16],
+    owners: &mut [u8],
+    words: &mut [u64],
+    base: usize,
+    c: u8,
+) -> Left
     ensures { λ r. ⌜ ReleaseSays base (now (tree .entry)) (now (owners .entry)) (now (words .entry)) c (now (tree .exit)) (now (owners .exit)) (now (words .exit)) r ⌝ }
 {
     if !contents::is_backed(owners, words) {

@@ -249,7 +249,14 @@ pub fn alloc(tree: &mut [u16], owners: &mut [u8], base: usize, c: u8) -> Allocat
 
 // Gives the client c the lowest run of `size` free frames whose first is a multiple of 2 to the power of
 // `align_log2`.
-pub fn alloc_contiguous(tree: &mut [u16], owners: &mut [u8], base: usize, c: u8, size: usize, align_log2: usize) -> RunAllocated
+pub fn alloc_contiguous(
+    tree: &mut [u16],
+    owners: &mut [u8],
+    base: usize,
+    c: u8,
+    size: usize,
+    align_log2: usize,
+) -> RunAllocated
     ensures { λ r. ⌜ RunSays base (now (tree .entry)) (now (owners .entry)) c size «align_log2» (now (tree .exit)) (now (owners .exit)) r ⌝ }
 {
     match claims::find_run(tree, owners, base, c, size, align_log2) {
@@ -275,7 +282,14 @@ pub fn dealloc(tree: &mut [u16], owners: &mut [u8], base: usize, c: u8, addr: us
 }
 
 // The client c gives back the `count` frames from an address on, all or none.
-pub fn dealloc_contiguous(tree: &mut [u16], owners: &mut [u8], base: usize, c: u8, addr: usize, count: usize) -> RunFreed
+pub fn dealloc_contiguous(
+    tree: &mut [u16],
+    owners: &mut [u8],
+    base: usize,
+    c: u8,
+    addr: usize,
+    count: usize,
+) -> RunFreed
     ensures { λ r. ⌜ DeallocRunSays base (now (tree .entry)) (now (owners .entry)) c addr count (now (tree .exit)) (now (owners .exit)) r ⌝ }
 {
     match claims::may_free_run(tree, owners, base, c, addr, count) {

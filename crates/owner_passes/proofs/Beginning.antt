@@ -59,5 +59,6 @@ module _ (t o : List ℕ) (t₁ o′ : List ℕ) (m : Matched t o) (w : Reset t 
     where
       given : Assigned t₁ o′ 0 n 1 255 t″ o′
       given = record { bits = c; bytes = record { long = refl; inside = λ k _ _. nobody k; outside = λ k _. refl } }
+
       now : Became t₁ o′ 0 n Free t″ o′
       now = became t₁ o′ 0 n 1 255 t″ o′ given Free refl

@@ -96,6 +96,7 @@ module _ (t o : List ℕ) (c k a b : ℕ) (t′ o′ t″ o″ : List ℕ) (l : 
         where
           decState : (m : ℕ) → Dec (free t′ m < 1)
           decState m = decLt (free t′ m) 1
+
           at : Dec (free t′ m < 1) → base + 4096 * (m + 1) < 2 ^ 64
           at (yes u) = has-place base t′ o′ m (Owned c) q (omega arith) (owned-state t′ o′ m c (omega arith) (y .before m p h) l) (client-not-reserved c)
           at (no u) = has-place base t′ o′ m Free q (omega arith) (free-state t′ o′ m (let v = bit-lt t′ (length t′ + m) in omega (arith, u))) not-reserved

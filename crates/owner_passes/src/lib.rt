@@ -18,7 +18,11 @@ pub fn one_if_owned(tree: &[u16], owners: &[u8], k: usize, c: u8) -> usize
     if owners[k] != c {
         return 0;
     }
-    if bitmap_tree::read(tree, tree.len() + k) == 0 { 1 } else { 0 }
+    if bitmap_tree::read(tree, tree.len() + k) == 0 {
+        1
+    } else {
+        0
+    }
 }
 
 // How many frames the client c owns.

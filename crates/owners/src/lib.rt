@@ -70,7 +70,11 @@ pub fn has_owner(tree: &[u16], owners: &[u8], k: usize) -> bool
     if owners[k] >= 64 {
         return false;
     }
-    if bitmap_tree::read(tree, tree.len() + k) == 0 { true } else { false }
+    if bitmap_tree::read(tree, tree.len() + k) == 0 {
+        true
+    } else {
+        false
+    }
 }
 
 // The first frame from a up to b that some client owns, or b.

@@ -15,7 +15,7 @@ use Rattle.bitmap_allocator.specs.declared.Freed.{Freed}
 use Rattle.bitmap_allocator.specs.declared.Ranged.{Ranged}
 use Rattle.bitmap_allocator.specs.Looks.{WordsSays, CapSays, CountSays, AnySays, TestSays, NextSays, CheckSays}
 use Rattle.bitmap_allocator.specs.Changes.{ResetSays, AllocSays, RunSays, DeallocSays, RangeSays}
-use Rattle.replayframes.specs.Codes.{Coded, Valued, done, notFull, noSize, outside, empty, reversed, noRoom, notTaken, corrupt}
+use Rattle.codes.specs.Codes.{Coded, Valued, done, notFull, noSize, outside, empty, reversed, noRoom, notTaken, corrupt}
 
 -- ---- the code and the value of each answer
 

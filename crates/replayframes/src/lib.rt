@@ -15,25 +15,15 @@ use bitmap_allocator::SomeFree;
 use bitmap_allocator::Tested;
 use bitmap_allocator::Wiped;
 use bitmap_allocator::Words;
-
-// It is done, and the value is written.
-pub const RF_DONE: u32 = 0;
-// So many words are no full tree.
-pub const RF_NOT_FULL: u32 = 1;
-// No full tree has so many frames.
-pub const RF_NO_SIZE: u32 = 2;
-// There is no such frame.
-pub const RF_OUTSIDE: u32 = 3;
-// The range or the run has no frame.
-pub const RF_EMPTY: u32 = 4;
-// The range ends before it starts.
-pub const RF_REVERSED: u32 = 5;
-// No frame, or no such run of frames, is free.
-pub const RF_NO_ROOM: u32 = 6;
-// The frame is free already.
-pub const RF_NOT_TAKEN: u32 = 7;
-// A summary does not agree with what it summarises.
-pub const RF_CORRUPT: u32 = 8;
+use codes::RF_CORRUPT;
+use codes::RF_DONE;
+use codes::RF_EMPTY;
+use codes::RF_NO_ROOM;
+use codes::RF_NO_SIZE;
+use codes::RF_NOT_FULL;
+use codes::RF_NOT_TAKEN;
+use codes::RF_OUTSIDE;
+use codes::RF_REVERSED;
 
 // How many words a tree of so many frames has.
 #[no_mangle]

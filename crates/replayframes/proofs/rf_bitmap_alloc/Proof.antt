@@ -4,7 +4,7 @@ use Rattle.replayframes.proofs.rf_bitmap_alloc.Statement.{statement}
 use Rattle.replayframes.proofs.rf_bitmap_alloc.Tie as tie
 use Rattle.bitmap_allocator.specs.Changes.{AllocSays}
 use Rattle.replayframes.specs.Bitmap.{allocCode, allocValue}
-use Rattle.replayframes.proofs.Codes.{valued}
+use Rattle.codes.proofs.Codes.{valued}
 
 alloc-requires : tie.Need-alloc-requires
 alloc-requires c κs = search needs

@@ -4,7 +4,7 @@ use Rattle.replayframes.proofs.rf_bitmap_alloc_contiguous.Statement.{st
 use Rattle.replayframes.proofs.rf_bitmap_alloc_contiguous.Tie as tie
 use Rattle.bitmap_allocator.specs.Changes.{RunSays}
 use Rattle.replayframes.specs.Bitmap.{runCode, runValue}
-use Rattle.replayframes.proofs.Codes.{valued}
+use Rattle.codes.proofs.Codes.{valued}
 
 alloc-contiguous-requires : tie.Need-alloc-contiguous-requires
 alloc-contiguous-requires c κs = search needs

@@ -4,7 +4,7 @@ use Rattle.replayframes.proofs.rf_bitmap_any.Statement.{statement}
 use Rattle.replayframes.proofs.rf_bitmap_any.Tie as tie
 use Rattle.bitmap_allocator.specs.Looks.{AnySays}
 use Rattle.replayframes.specs.Bitmap.{anyCode, anyValue}
-use Rattle.replayframes.proofs.Codes.{valued}
+use Rattle.codes.proofs.Codes.{valued}
 
 any-requires : tie.Need-any-requires
 any-requires c κs = search needs

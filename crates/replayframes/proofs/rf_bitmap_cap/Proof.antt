@@ -4,7 +4,7 @@ use Rattle.replayframes.proofs.rf_bitmap_cap.Statement.{statement}
 use Rattle.replayframes.proofs.rf_bitmap_cap.Tie as tie
 use Rattle.bitmap_allocator.specs.Looks.{CapSays}
 use Rattle.replayframes.specs.Bitmap.{countedCode, countedValue}
-use Rattle.replayframes.proofs.Codes.{valued}
+use Rattle.codes.proofs.Codes.{valued}
 
 cap-requires : tie.Need-cap-requires
 cap-requires c κs = search needs

@@ -4,7 +4,7 @@ use Rattle.replayframes.proofs.rf_bitmap_check.Statement.{statement}
 use Rattle.replayframes.proofs.rf_bitmap_check.Tie as tie
 use Rattle.bitmap_allocator.specs.Looks.{CheckSays}
 use Rattle.replayframes.specs.Bitmap.{checkCode, checkValue}
-use Rattle.replayframes.proofs.Codes.{valued}
+use Rattle.codes.proofs.Codes.{valued}
 
 check-requires : tie.Need-check-requires
 check-requires c κs = search needs

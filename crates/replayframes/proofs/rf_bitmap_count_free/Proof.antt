@@ -4,7 +4,7 @@ use Rattle.replayframes.proofs.rf_bitmap_count_free.Statement.{statemen
 use Rattle.replayframes.proofs.rf_bitmap_count_free.Tie as tie
 use Rattle.bitmap_allocator.specs.Looks.{CountSays}
 use Rattle.replayframes.specs.Bitmap.{countedCode, countedValue}
-use Rattle.replayframes.proofs.Codes.{valued}
+use Rattle.codes.proofs.Codes.{valued}
 
 count-free-requires : tie.Need-count-free-requires
 count-free-requires c κs = search needs

@@ -4,7 +4,7 @@ use Rattle.replayframes.proofs.rf_bitmap_dealloc.Statement.{statement}
 use Rattle.replayframes.proofs.rf_bitmap_dealloc.Tie as tie
 use Rattle.bitmap_allocator.specs.Changes.{DeallocSays}
 use Rattle.replayframes.specs.Bitmap.{deallocCode}
-use Rattle.replayframes.proofs.Codes.{coded}
+use Rattle.codes.proofs.Codes.{coded}
 
 dealloc-requires : tie.Need-dealloc-requires
 dealloc-requires c κs = search needs

@@ -4,7 +4,7 @@ use Rattle.replayframes.proofs.rf_bitmap_next.Statement.{statement}
 use Rattle.replayframes.proofs.rf_bitmap_next.Tie as tie
 use Rattle.bitmap_allocator.specs.Looks.{NextSays}
 use Rattle.replayframes.specs.Bitmap.{nextCode, nextValue}
-use Rattle.replayframes.proofs.Codes.{valued}
+use Rattle.codes.proofs.Codes.{valued}
 
 next-requires : tie.Need-next-requires
 next-requires c κs = search needs

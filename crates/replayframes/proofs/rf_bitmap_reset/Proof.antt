@@ -4,7 +4,7 @@ use Rattle.replayframes.proofs.rf_bitmap_reset.Statement.{statement}
 use Rattle.replayframes.proofs.rf_bitmap_reset.Tie as tie
 use Rattle.bitmap_allocator.specs.Changes.{ResetSays}
 use Rattle.replayframes.specs.Bitmap.{resetCode}
-use Rattle.replayframes.proofs.Codes.{coded}
+use Rattle.codes.proofs.Codes.{coded}
 
 reset-requires : tie.Need-reset-requires
 reset-requires c κs = search needs

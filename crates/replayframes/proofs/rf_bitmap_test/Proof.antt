@@ -4,7 +4,7 @@ use Rattle.replayframes.proofs.rf_bitmap_test.Statement.{statement}
 use Rattle.replayframes.proofs.rf_bitmap_test.Tie as tie
 use Rattle.bitmap_allocator.specs.Looks.{TestSays}
 use Rattle.replayframes.specs.Bitmap.{testCode, testValue}
-use Rattle.replayframes.proofs.Codes.{valued}
+use Rattle.codes.proofs.Codes.{valued}
 
 test-requires : tie.Need-test-requires
 test-requires c κs = search needs

@@ -4,7 +4,7 @@ use Rattle.replayframes.proofs.rf_bitmap_words_for.Statement.{statement
 use Rattle.replayframes.proofs.rf_bitmap_words_for.Tie as tie
 use Rattle.bitmap_allocator.specs.Looks.{WordsSays}
 use Rattle.replayframes.specs.Bitmap.{wordsCode, wordsValue}
-use Rattle.replayframes.proofs.Codes.{valued}
+use Rattle.codes.proofs.Codes.{valued}
 
 words-for-requires : tie.Need-words-for-requires
 words-for-requires c κs = search needs

@@ -38,6 +38,58 @@ notTaken = 7
 abbrev pub corrupt : ℕ
 corrupt = 8
 
+-- there are not as many bytes of owners as frames
+abbrev pub unmatched : ℕ
+unmatched = 9
+
+-- the base is no multiple of 4096
+abbrev pub badBase : ℕ
+badBase = 10
+
+-- clients are numbered 0 to 63
+abbrev pub noClient : ℕ
+noClient = 11
+
+-- the address is below the base
+abbrev pub below : ℕ
+below = 12
+
+-- the address is not the first of a frame
+abbrev pub notAtFrame : ℕ
+notAtFrame = 13
+
+-- the frame is another client's, or reserved
+abbrev pub notYours : ℕ
+notYours = 14
+
+-- there are not so many frames
+abbrev pub tooMany : ℕ
+tooMany = 15
+
+-- a frame would end past 2^64 - 1
+abbrev pub tooHigh : ℕ
+tooHigh = 16
+
+-- a client owns the frame
+abbrev pub taken : ℕ
+taken = 17
+
+-- the bit and the byte of the frame are not in order
+abbrev pub wrong : ℕ
+wrong = 18
+
+-- the contents are not those of whole frames, or of more than there are
+abbrev pub unbacked : ℕ
+unbacked = 19
+
+-- the frame has no contents
+abbrev pub beyond : ℕ
+beyond = 20
+
+-- the frame is free and not empty
+abbrev pub dirty : ℕ
+dirty = 21
+
 -- r is the code of an answer that says what is so
 pub record Coded {A : Type 0} (Says : A → Type 0) (code : A → ℕ) (r : ℕ) : Type 0 where
   pub answer : A

@@ -1,7 +1,7 @@
 -- From an answer that is known to its code and its value. Assumes nothing.
 use mathlib.Core.Path.{_≡_, sym, ap}
 use Prim.Native.Nat.{ℕ}
-use Rattle.replayframes.specs.Codes.{Coded, Valued}
+use Rattle.codes.specs.Codes.{Coded, Valued}
 
 -- the code of an answer that turned out to be y
 pub coded : {A : Type 0} (Says : A → Type 0) (code : A → ℕ) {x y : A} → Says x → x ≡ y → Coded Says code (code y)

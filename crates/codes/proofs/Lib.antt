@@ -1,0 +1,2 @@
+-- From an answer to its code.
+pub mod Codes

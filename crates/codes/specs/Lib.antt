@@ -1,0 +1,2 @@
+-- The results of the exported functions.
+pub mod Codes

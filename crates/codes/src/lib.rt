@@ -1,0 +1,46 @@
+// The results of the exported functions: 0 or a reason.
+
+// It is done, and the value is written.
+pub const RF_DONE: u32 = 0;
+// So many words are no full tree.
+pub const RF_NOT_FULL: u32 = 1;
+// No full tree has so many frames.
+pub const RF_NO_SIZE: u32 = 2;
+// There is no such frame.
+pub const RF_OUTSIDE: u32 = 3;
+// The range or the run has no frame.
+pub const RF_EMPTY: u32 = 4;
+// The range ends before it starts.
+pub const RF_REVERSED: u32 = 5;
+// No frame, or no such run of frames, is free.
+pub const RF_NO_ROOM: u32 = 6;
+// The frame is free already.
+pub const RF_NOT_TAKEN: u32 = 7;
+// A summary does not agree with what it summarises.
+pub const RF_CORRUPT: u32 = 8;
+// There are not as many bytes of owners as frames.
+pub const RF_UNMATCHED: u32 = 9;
+// The base is no multiple of 4096.
+pub const RF_BAD_BASE: u32 = 10;
+// Clients are numbered 0 to 63.
+pub const RF_NO_CLIENT: u32 = 11;
+// The address is below the base.
+pub const RF_BELOW: u32 = 12;
+// The address is not the first of a frame.
+pub const RF_NOT_AT_FRAME: u32 = 13;
+// The frame is another client's, or reserved.
+pub const RF_NOT_YOURS: u32 = 14;
+// There are not so many frames.
+pub const RF_TOO_MANY: u32 = 15;
+// A frame would end past 2^64 - 1.
+pub const RF_TOO_HIGH: u32 = 16;
+// A client owns the frame.
+pub const RF_TAKEN: u32 = 17;
+// The bit and the byte of the frame are not in order.
+pub const RF_WRONG: u32 = 18;
+// The contents are not those of whole frames, or of more than there are.
+pub const RF_UNBACKED: u32 = 19;
+// The frame has no contents.
+pub const RF_BEYOND: u32 = 20;
+// The frame is free and not empty.
+pub const RF_DIRTY: u32 = 21;

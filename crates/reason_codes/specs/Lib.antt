@@ -1,0 +1,2 @@
+-- The codes of the shared allocator's reasons.
+pub mod Reasons

@@ -1,2 +1,0 @@
--- The law of codes.
-pub mod Codes
