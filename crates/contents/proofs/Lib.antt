@@ -1,2 +1,3 @@
--- The laws of words wiped (`Words`).
+-- The laws of words wiped (`Words`), and of what keeps the memories clean (`Cleaning`).
 pub mod Words
+pub mod Cleaning

@@ -48,3 +48,9 @@ pub record Clean (base : ℕ) (t o w : List ℕ) : Type 0 where
   pub backed : Backed o w
   pub beyond : (k : ℕ) → framesIn w ≤ k → state t o k ≡ Reserved
   pub zero : (k : ℕ) → state t o k ≡ Free → Zero w k
+
+-- every word and byte is as it was
+pub record KeptAll (t o w t′ o′ w′ : List ℕ) : Type 0 where
+  pub tree : t′ ≡ t
+  pub bytes : o′ ≡ o
+  pub words : w′ ≡ w

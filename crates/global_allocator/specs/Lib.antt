@@ -1,3 +1,3 @@
--- What the public contracts say. `Looks` has the functions that only look, and `Changes` those that change the memories.
-pub mod Looks
+-- What the public contracts say. `Addresses` has where a frame stands, and `Changes` what is given and given back.
+pub mod Addresses
 pub mod Changes

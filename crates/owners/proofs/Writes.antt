@@ -12,7 +12,7 @@ use Rattle.bitmap_tree.specs.Tree.{free, cap, Full}
 use Rattle.bitmap_tree.specs.Writes.{Changed}
 use Rattle.bitmap_tree.proofs.Nodes.{bit-clear}
 use Rattle.owners.specs.States.{State, State.Free, State.Reserved, State.Owned, stateOf, state, HasOwner, Unowned, Matched, Placed, Right, rightAt, Accounted}
-use Rattle.owners.specs.Writes.{Filled, Assigned, Became}
+use Rattle.owners.specs.Writes.{Filled, Assigned, Became, Kept}
 use Rattle.owners.proofs.States.{state-of, state-told, same-state, free-state, owned-state, same-right}
 
 -- ---- bytes
@@ -37,6 +37,10 @@ fill-more o a k c o′ l h f = record {
     here : (m : ℕ) → a ≤ m → m < k + 1 → Dec (m ≡ k) → getD (set o′ k c) m 255 ≡ c
     here m lo hi (yes e) = rw e (getD-set-same o′ k c 255 h)
     here m lo hi (no d) = getD-set-other o′ k m c 255 d ∙ f .inside m lo (omega (arith, d))
+
+-- nothing is changed
+pub kept : (t o : List ℕ) → Kept t o t o
+kept t o = record { words = refl; bytes = refl }
 
 -- ---- states
 

@@ -24,3 +24,8 @@ pub record Became (t o : List ℕ) (a b : ℕ) (s : State) (t′ o′ : List ℕ
   pub others : (k : ℕ) → Outside a b k → state t′ o′ k ≡ state t o k
   pub words : length t′ ≡ length t
   pub bytes : length o′ ≡ length o
+
+-- every word and byte is as it was
+pub record Kept (t o t′ o′ : List ℕ) : Type 0 where
+  pub words : t′ ≡ t
+  pub bytes : o′ ≡ o

@@ -1,6 +1,14 @@
 // The shared allocator's functions that programs in other languages link: numbers, and pointers with
 // lengths. Each answers 0 or a reason, and writes its value through the last pointer, which a refusal
 // that names no frame leaves alone. Nothing is demanded of the caller beyond the types.
+ghost use Rattle.replayframes_allocator.specs.Allocator.{FidCode, PaddrCode, OwnerCode, CountCode, CheckCode, InitCode, AllocCode, RunCode, DeallocCode, DeallocRunCode, InsertCode, RemoveCode, ReleaseCode};
+use allocator_pool::Checked;
+use allocator_pool::Counted;
+use allocator_pool::FrameState;
+use allocator_pool::Inserted;
+use allocator_pool::Released;
+use allocator_pool::Removed;
+use allocator_pool::Started;
 use codes::RF_BAD_BASE;
 use codes::RF_BELOW;
 use codes::RF_CORRUPT;
@@ -12,18 +20,11 @@ use codes::RF_TOO_HIGH;
 use codes::RF_TOO_MANY;
 use codes::RF_WRONG;
 use global_allocator::Allocated;
-use global_allocator::Checked;
-use global_allocator::Counted;
-use global_allocator::FrameState;
 use global_allocator::Freed;
-use global_allocator::Inserted;
 use global_allocator::Located;
 use global_allocator::Numbered;
-use global_allocator::Released;
-use global_allocator::Removed;
 use global_allocator::RunAllocated;
 use global_allocator::RunFreed;
-use global_allocator::Started;
 
 // What `rf_allocator_owner` writes for a frame that is free.
 pub const RF_FREE: u8 = 64;
@@ -32,7 +33,9 @@ pub const RF_RESERVED: u8 = 65;
 
 // The number of the frame at an address.
 #[no_mangle]
-pub extern "C" fn rf_allocator_fid(base: usize, addr: usize, frame: &mut usize) -> u32 {
+pub extern "C" fn rf_allocator_fid(base: usize, addr: usize, frame: &mut usize) -> u32
+    ensures { λ r. ⌜ FidCode base addr (now (frame .entry)) (now (frame .exit)) r ⌝ }
+{
     match global_allocator::paddr_to_fid(base, addr) {
         Numbered::Frame(k) => {
             *frame = k;
@@ -46,7 +49,9 @@ pub extern "C" fn rf_allocator_fid(base: usize, addr: usize, frame: &mut usize) 
 
 // The address of frame k.
 #[no_mangle]
-pub extern "C" fn rf_allocator_paddr(base: usize, k: usize, addr: &mut usize) -> u32 {
+pub extern "C" fn rf_allocator_paddr(base: usize, k: usize, addr: &mut usize) -> u32
+    ensures { λ r. ⌜ PaddrCode base k (now (addr .entry)) (now (addr .exit)) r ⌝ }
+{
     match global_allocator::fid_to_paddr(base, k) {
         Located::At(at) => {
             *addr = at;
@@ -65,8 +70,10 @@ pub extern "C" fn rf_allocator_owner(
     base: usize,
     k: usize,
     owner: &mut u8,
-) -> u32 {
-    match global_allocator::owner(tree, owners, base, k) {
+) -> u32
+    ensures { λ r. ⌜ OwnerCode base (now (tree .entry)) (now (owners .entry)) k (now (owner .entry)) (now (owner .exit)) r ⌝ }
+{
+    match allocator_pool::owner(tree, owners, base, k) {
         FrameState::Free => {
             *owner = RF_FREE;
             RF_DONE
@@ -92,8 +99,10 @@ pub extern "C" fn rf_allocator_owned_count(
     base: usize,
     client: u8,
     frames: &mut usize,
-) -> u32 {
-    match global_allocator::owned_count(tree, owners, base, client) {
+) -> u32
+    ensures { λ r. ⌜ CountCode base (now (tree .entry)) (now (owners .entry)) client (now (frames .entry)) (now (frames .exit)) r ⌝ }
+{
+    match allocator_pool::owned_count(tree, owners, base, client) {
         Counted::Frames(n) => {
             *frames = n;
             RF_DONE
@@ -111,8 +120,10 @@ pub extern "C" fn rf_allocator_check(
     owners: &[u8],
     base: usize,
     at: &mut usize,
-) -> u32 {
-    match global_allocator::check(tree, owners, base) {
+) -> u32
+    ensures { λ r. ⌜ CheckCode base (now (tree .entry)) (now (owners .entry)) (now (at .entry)) (now (at .exit)) r ⌝ }
+{
+    match allocator_pool::check(tree, owners, base) {
         Checked::Accounted => RF_DONE,
         Checked::Lie(p) => {
             *at = p;
@@ -133,8 +144,10 @@ pub extern "C" fn rf_allocator_init(
     owners: &mut [u8],
     base: usize,
     n: usize,
-) -> u32 {
-    match global_allocator::init(tree, owners, base, n) {
+) -> u32
+    ensures { λ r. ⌜ InitCode base (now (tree .entry)) (now (owners .entry)) n (now (tree .exit)) (now (owners .exit)) r ⌝ }
+{
+    match allocator_pool::init(tree, owners, base, n) {
         Started::Done => RF_DONE,
         Started::TooMany => RF_TOO_MANY,
         Started::TooHigh => RF_TOO_HIGH,
@@ -150,7 +163,9 @@ pub extern "C" fn rf_allocator_alloc(
     base: usize,
     client: u8,
     addr: &mut usize,
-) -> u32 {
+) -> u32
+    ensures { λ r. ⌜ AllocCode base (now (tree .entry)) (now (owners .entry)) client (now (tree .exit)) (now (owners .exit)) (now (addr .entry)) (now (addr .exit)) r ⌝ }
+{
     match global_allocator::alloc(tree, owners, base, client) {
         Allocated::At(at) => {
             *addr = at;
@@ -171,7 +186,9 @@ pub extern "C" fn rf_allocator_alloc_contiguous(
     size: usize,
     align_log2: usize,
     addr: &mut usize,
-) -> u32 {
+) -> u32
+    ensures { λ r. ⌜ RunCode base (now (tree .entry)) (now (owners .entry)) client size «align_log2» (now (tree .exit)) (now (owners .exit)) (now (addr .entry)) (now (addr .exit)) r ⌝ }
+{
     match global_allocator::alloc_contiguous(tree, owners, base, client, size, align_log2) {
         RunAllocated::At(at) => {
             *addr = at;
@@ -189,7 +206,9 @@ pub extern "C" fn rf_allocator_dealloc(
     base: usize,
     client: u8,
     addr: usize,
-) -> u32 {
+) -> u32
+    ensures { λ r. ⌜ DeallocCode base (now (tree .entry)) (now (owners .entry)) client addr (now (tree .exit)) (now (owners .exit)) r ⌝ }
+{
     match global_allocator::dealloc(tree, owners, base, client, addr) {
         Freed::Done => RF_DONE,
         Freed::No(why) => reason_codes::not_freed(why),
@@ -207,7 +226,9 @@ pub extern "C" fn rf_allocator_dealloc_contiguous(
     addr: usize,
     count: usize,
     frame: &mut usize,
-) -> u32 {
+) -> u32
+    ensures { λ r. ⌜ DeallocRunCode base (now (tree .entry)) (now (owners .entry)) client addr count (now (tree .exit)) (now (owners .exit)) (now (frame .entry)) (now (frame .exit)) r ⌝ }
+{
     match global_allocator::dealloc_contiguous(tree, owners, base, client, addr, count) {
         RunFreed::Done => RF_DONE,
         RunFreed::No(why) => reason_codes::run_not_freed(why, frame),
@@ -224,8 +245,10 @@ pub extern "C" fn rf_allocator_insert(
     from: usize,
     to: usize,
     frame: &mut usize,
-) -> u32 {
-    match global_allocator::insert(tree, owners, base, from, to) {
+) -> u32
+    ensures { λ r. ⌜ InsertCode base (now (tree .entry)) (now (owners .entry)) from to (now (tree .exit)) (now (owners .exit)) (now (frame .entry)) (now (frame .exit)) r ⌝ }
+{
+    match allocator_pool::insert(tree, owners, base, from, to) {
         Inserted::Done => RF_DONE,
         Inserted::TooHigh => RF_TOO_HIGH,
         Inserted::No(why) => reason_codes::not_changed(why, frame),
@@ -242,8 +265,10 @@ pub extern "C" fn rf_allocator_remove(
     from: usize,
     to: usize,
     frame: &mut usize,
-) -> u32 {
-    match global_allocator::remove(tree, owners, base, from, to) {
+) -> u32
+    ensures { λ r. ⌜ RemoveCode base (now (tree .entry)) (now (owners .entry)) from to (now (tree .exit)) (now (owners .exit)) (now (frame .entry)) (now (frame .exit)) r ⌝ }
+{
+    match allocator_pool::remove(tree, owners, base, from, to) {
         Removed::Done => RF_DONE,
         Removed::No(why) => reason_codes::not_changed(why, frame),
     }
@@ -256,8 +281,10 @@ pub extern "C" fn rf_allocator_release_all(
     owners: &mut [u8],
     base: usize,
     client: u8,
-) -> u32 {
-    match global_allocator::release_all(tree, owners, base, client) {
+) -> u32
+    ensures { λ r. ⌜ ReleaseCode base (now (tree .entry)) (now (owners .entry)) client (now (tree .exit)) (now (owners .exit)) r ⌝ }
+{
+    match allocator_pool::release_all(tree, owners, base, client) {
         Released::Done => RF_DONE,
         Released::NoClient => RF_NO_CLIENT,
         Released::Unfit(why) => reason_codes::unfit(why),

@@ -1,6 +1,7 @@
 // The functions of the shared allocator with contents that programs in other languages link: numbers,
 // and pointers with lengths. Each answers 0 or a reason, and writes its value through the last pointer,
 // which a refusal that names no frame leaves alone. Nothing is demanded of the caller beyond the types.
+ghost use Rattle.replayframes_frames.specs.Frames.{InitCode, AllocCode, RunCode, DeallocCode, DeallocRunCode, InsertCode, RemoveCode, ReleaseCode, CheckCode};
 use codes::RF_BEYOND;
 use codes::RF_CORRUPT;
 use codes::RF_DIRTY;
@@ -9,15 +10,15 @@ use codes::RF_NO_CLIENT;
 use codes::RF_TOO_HIGH;
 use codes::RF_UNBACKED;
 use codes::RF_WRONG;
-use frames::Begun;
-use frames::Closed;
 use frames::Given;
-use frames::Left;
-use frames::Looked;
-use frames::Opened;
 use frames::Returned;
 use frames::RunGiven;
 use frames::RunReturned;
+use frames_pool::Begun;
+use frames_pool::Closed;
+use frames_pool::Left;
+use frames_pool::Looked;
+use frames_pool::Opened;
 
 // Makes the frames with contents free and empty, and all others reserved, whatever the memories held.
 #[no_mangle]
@@ -26,8 +27,10 @@ pub extern "C" fn rf_frames_init(
     owners: &mut [u8],
     words: &mut [u64],
     base: usize,
-) -> u32 {
-    match frames::init(tree, owners, words, base) {
+) -> u32
+    ensures { λ r. ⌜ InitCode base (now (tree .entry)) (now (owners .entry)) (now (words .entry)) (now (tree .exit)) (now (owners .exit)) (now (words .exit)) r ⌝ }
+{
+    match frames_pool::init(tree, owners, words, base) {
         Begun::Done => RF_DONE,
         Begun::Unbacked => RF_UNBACKED,
         Begun::TooHigh => RF_TOO_HIGH,
@@ -44,7 +47,9 @@ pub extern "C" fn rf_frames_alloc(
     base: usize,
     client: u8,
     addr: &mut usize,
-) -> u32 {
+) -> u32
+    ensures { λ r. ⌜ AllocCode base (now (tree .entry)) (now (owners .entry)) (now (words .entry)) client (now (tree .exit)) (now (owners .exit)) (now (addr .entry)) (now (addr .exit)) r ⌝ }
+{
     match frames::alloc(tree, owners, words, base, client) {
         Given::At(at) => {
             *addr = at;
@@ -67,7 +72,9 @@ pub extern "C" fn rf_frames_alloc_contiguous(
     size: usize,
     align_log2: usize,
     addr: &mut usize,
-) -> u32 {
+) -> u32
+    ensures { λ r. ⌜ RunCode base (now (tree .entry)) (now (owners .entry)) (now (words .entry)) client size «align_log2» (now (tree .exit)) (now (owners .exit)) (now (addr .entry)) (now (addr .exit)) r ⌝ }
+{
     match frames::alloc_contiguous(tree, owners, words, base, client, size, align_log2) {
         RunGiven::At(at) => {
             *addr = at;
@@ -87,7 +94,9 @@ pub extern "C" fn rf_frames_dealloc(
     base: usize,
     client: u8,
     addr: usize,
-) -> u32 {
+) -> u32
+    ensures { λ r. ⌜ DeallocCode base (now (tree .entry)) (now (owners .entry)) (now (words .entry)) client addr (now (tree .exit)) (now (owners .exit)) (now (words .exit)) r ⌝ }
+{
     match frames::dealloc(tree, owners, words, base, client, addr) {
         Returned::Done => RF_DONE,
         Returned::Unbacked => RF_UNBACKED,
@@ -108,7 +117,9 @@ pub extern "C" fn rf_frames_dealloc_contiguous(
     addr: usize,
     count: usize,
     frame: &mut usize,
-) -> u32 {
+) -> u32
+    ensures { λ r. ⌜ DeallocRunCode base (now (tree .entry)) (now (owners .entry)) (now (words .entry)) client addr count (now (tree .exit)) (now (owners .exit)) (now (words .exit)) (now (frame .entry)) (now (frame .exit)) r ⌝ }
+{
     match frames::dealloc_contiguous(tree, owners, words, base, client, addr, count) {
         RunReturned::Done => RF_DONE,
         RunReturned::Unbacked => RF_UNBACKED,
@@ -128,8 +139,10 @@ pub extern "C" fn rf_frames_insert(
     from: usize,
     to: usize,
     frame: &mut usize,
-) -> u32 {
-    match frames::insert(tree, owners, words, base, from, to) {
+) -> u32
+    ensures { λ r. ⌜ InsertCode base (now (tree .entry)) (now (owners .entry)) (now (words .entry)) from to (now (tree .exit)) (now (owners .exit)) (now (words .exit)) (now (frame .entry)) (now (frame .exit)) r ⌝ }
+{
+    match frames_pool::insert(tree, owners, words, base, from, to) {
         Opened::Done => RF_DONE,
         Opened::Unbacked => RF_UNBACKED,
         Opened::TooHigh => RF_TOO_HIGH,
@@ -149,8 +162,10 @@ pub extern "C" fn rf_frames_remove(
     from: usize,
     to: usize,
     frame: &mut usize,
-) -> u32 {
-    match frames::remove(tree, owners, words, base, from, to) {
+) -> u32
+    ensures { λ r. ⌜ RemoveCode base (now (tree .entry)) (now (owners .entry)) (now (words .entry)) from to (now (tree .exit)) (now (owners .exit)) (now (frame .entry)) (now (frame .exit)) r ⌝ }
+{
+    match frames_pool::remove(tree, owners, words, base, from, to) {
         Closed::Done => RF_DONE,
         Closed::Unbacked => RF_UNBACKED,
         Closed::No(why) => reason_codes::not_changed(why, frame),
@@ -165,8 +180,10 @@ pub extern "C" fn rf_frames_release_all(
     words: &mut [u64],
     base: usize,
     client: u8,
-) -> u32 {
-    match frames::release_all(tree, owners, words, base, client) {
+) -> u32
+    ensures { λ r. ⌜ ReleaseCode base (now (tree .entry)) (now (owners .entry)) (now (words .entry)) client (now (tree .exit)) (now (owners .exit)) (now (words .exit)) r ⌝ }
+{
+    match frames_pool::release_all(tree, owners, words, base, client) {
         Left::Done => RF_DONE,
         Left::Unbacked => RF_UNBACKED,
         Left::Corrupt => RF_CORRUPT,
@@ -184,8 +201,10 @@ pub extern "C" fn rf_frames_check(
     words: &[u64],
     base: usize,
     at: &mut usize,
-) -> u32 {
-    match frames::check(tree, owners, words, base) {
+) -> u32
+    ensures { λ r. ⌜ CheckCode base (now (tree .entry)) (now (owners .entry)) (now (words .entry)) (now (at .entry)) (now (at .exit)) r ⌝ }
+{
+    match frames_pool::check(tree, owners, words, base) {
         Looked::Clean => RF_DONE,
         Looked::Unbacked => RF_UNBACKED,
         Looked::Lie(p) => {

@@ -1,11 +1,7 @@
+-- `bitmap_allocator::alloc` meets its contract. Assumes nothing.
 use borrow.Author.Needs.{needs}
 use Rattle.bitmap_allocator.proofs.alloc.Statement.{statement}
 use Rattle.bitmap_allocator.proofs.alloc.Tie as tie
-use Rattle.bitmap_allocator.proofs.alloc.Reads as reads
-use Rattle.bitmap_allocator.proofs.alloc.Lts as lts
-use Rattle.bitmap_search.proofs.lowest.Reads as lowest-reads
-use Rattle.bitmap_tree.proofs.change_one.Reads as change-one-reads
-use Rattle.bitmap_tree.proofs.is_full.Reads as is-full-reads
 use mathlib.Core.Path.{refl}
 use native.Mathlib.Omega.{arith}
 use lib.ListN.{length}
@@ -14,55 +10,42 @@ use Rattle.bitmap_tree.specs.Tree.{Full}
 use Rattle.bitmap_tree.proofs.Fullness.{full-bound}
 use Rattle.bitmap_search.specs.Found.{LowestSays}
 
--- src/lib.rt:232:9
 is-full-requires : tie.Need-is-full-requires
 is-full-requires c κs = search needs
 
--- src/lib.rt:233:9
 returns : tie.Need-returns
 returns c = (refl, refused (c .before .is-full .result) (c .if1 .taken) (c .before .is-full .ensures))
 
--- src/lib.rt:235:11
 lowest-requires : tie.Need-lowest-requires
 lowest-requires c κs = not-refused (c .before .before .is-full .result) (c .before .if1 .left) (c .before .before .is-full .ensures)
 
--- src/lib.rt:236:26
 enum-told : tie.Need-enum-told
 enum-told c = search needs
 
--- src/lib.rt:237:26
 enum-told-2 : tie.Need-enum-told-2
 enum-told-2 c = search needs
 
--- src/lib.rt:238:21
 enum-known-k : tie.Need-enum-known-k
 enum-known-k c = search needs
 
--- src/lib.rt:239:13
 change-one-requires : tie.Need-change-one-requires
 change-one-requires c κs = let f : Full (length (c .before .before .before .before .before .before .before .before .before .args .tree .now)) = not-refused (c .before .before .before .before .before .before .before .is-full .result) (c .before .before .before .before .before .before .if1 .left) (c .before .before .before .before .before .before .before .is-full .ensures) in let b = full-bound _ f in let u = told (LowestSays _) (c .before .before .k .given .1) (c .before .before .before .before .lowest .ensures) in let h = u .within in (omega arith, b .0, b .1, omega arith)
 
--- src/lib.rt:229:1
 same-length : tie.Need-same-length
 same-length c = search needs
 
--- src/lib.rt:229:1
 returns-2 : tie.Need-returns-2
 returns-2 c = let e = told (LowestSays _) (c .enum-told .given .1) (c .before .before .lowest .ensures) in record { kept = refl; full = not-refused (c .before .before .before .before .before .is-full .result) (c .before .before .before .before .if1 .left) (c .before .before .before .before .before .is-full .ensures); root = e .0; none = e .1 }
 
--- src/lib.rt:229:1
 same-length-2 : tie.Need-same-length-2
 same-length-2 c = search needs
 
--- src/lib.rt:229:1
 returns-3 : tie.Need-returns-3
 returns-3 c = record { kept = refl; full = not-refused (c .before .before .before .before .before .is-full .result) (c .before .before .before .before .if1 .left) (c .before .before .before .before .before .is-full .ensures); lie = told (LowestSays _) (c .enum-told2 .given .1) (c .before .before .lowest .ensures) }
 
--- src/lib.rt:229:1
 same-length-3 : tie.Need-same-length-3
 same-length-3 c = search needs
 
--- src/lib.rt:229:1
 returns-4 : tie.Need-returns-4
 returns-4 c = let u = told (LowestSays _) (c .before .before .before .before .before .k .given .1) (c .before .before .before .before .before .before .before .lowest .ensures) in record { full = not-refused (c .before .before .before .before .before .before .before .before .before .before .is-full .result) (c .before .before .before .before .before .before .before .before .before .if1 .left) (c .before .before .before .before .before .before .before .before .before .before .is-full .ensures); within = u .within; was = u .is; lowest = λ a m l. u .first a m (omega arith) l; change = c .before .before .change-one .ensures }
 

@@ -1,45 +1,34 @@
+-- `bitmap_search::lowest` meets its contract. Assumes nothing.
 use borrow.Author.Needs.{needs}
 use Rattle.bitmap_search.proofs.lowest.Statement.{statement}
 use Rattle.bitmap_search.proofs.lowest.Tie as tie
-use Rattle.bitmap_search.proofs.lowest.Reads as reads
-use Rattle.bitmap_search.proofs.lowest.Lts as lts
-use Rattle.bitmap_search.proofs.descend.Reads as descend-reads
-use mathlib.Core.Path.{refl}
 use native.Mathlib.Omega.{arith}
 use Rattle.base.proofs.Says.{told}
 use Rattle.bitmap_tree.proofs.Fullness.{full-bound}
 use Rattle.bitmap_search.specs.Found.{DownSays}
 use Rattle.bitmap_search.proofs.Descent.{root-says-none, under-root}
 
--- src/lib.rt:47:8
 shared-slice-read-if1 : tie.Need-shared-slice-read-if1
 shared-slice-read-if1 c = let b = full-bound _ (c .before .before .pre) in omega arith
 
--- src/lib.rt:48:9
 returns : tie.Need-returns
 returns c = (c .if1 .taken, root-says-none _ (c .before .before .before .pre) (c .if1 .taken))
 
--- src/lib.rt:50:11
 descend-requires : tie.Need-descend-requires
 descend-requires c κs = let b = full-bound _ (c .before .before .before .pre) in (omega arith, b .0, b .1, record { set = λ l. absurd (omega arith); root = λ _. c .if1 .left })
 
--- src/lib.rt:51:18
 enum-known-j : tie.Need-enum-known-j
 enum-known-j c = search needs
 
--- src/lib.rt:51:36
 sub-t9 : tie.Need-sub-t9
 sub-t9 c = let u = told (DownSays _ _) (c .before .j .given .1) (c .before .before .before .descend .ensures) in u .low
 
--- src/lib.rt:52:22
 enum-told : tie.Need-enum-told
 enum-told c = search needs
 
--- src/lib.rt:43:1
 returns-2 : tie.Need-returns-2
 returns-2 c = under-root _ _ (c .before .before .before .before .before .before .before .pre) (told (DownSays _ _) (c .before .j .given .1) (c .before .before .before .descend .ensures))
 
--- src/lib.rt:43:1
 returns-3 : tie.Need-returns-3
 returns-3 c = told (DownSays _ _) (c .enum-told .given .1) (c .before .before .descend .ensures)
 

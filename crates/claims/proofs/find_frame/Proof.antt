@@ -1,72 +1,51 @@
+-- `claims::find_frame` meets its contract. Assumes nothing.
 use borrow.Author.Needs.{needs}
 use Rattle.claims.proofs.find_frame.Statement.{statement}
 use Rattle.claims.proofs.find_frame.Tie as tie
-use Rattle.claims.proofs.find_frame.Reads as reads
-use Rattle.claims.proofs.find_frame.Lts as lts
-use Rattle.bitmap_search.proofs.lowest.Reads as lowest-reads
-use Rattle.claims.proofs.fitting.Reads as fitting-reads
-use Rattle.owner_passes.proofs.placed.Reads as placed-reads
-use mathlib.Core.Path.{_≡_, sym, _∙_}
-use native.Mathlib.Omega.{arith}
-use lib.ListN.{length}
 use Rattle.base.proofs.Says.{told, said, unsaid}
-use Rattle.bitmap_tree.proofs.Fullness.{full-bound}
 use Rattle.claims.specs.Fits.{FitSays}
 use Rattle.bitmap_search.specs.Found.{LowestSays}
 use Rattle.claims.proofs.Offers.{offered, misplaced, none-free}
 
--- src/lib.rt:150:11
 fitting-requires : tie.Need-fitting-requires
 fitting-requires c κs = search needs
 
--- src/lib.rt:151:17
 enum-known-why : tie.Need-enum-known-why
 enum-known-why c = search needs
 
--- src/lib.rt:152:13
 returns : tie.Need-returns
 returns c = told (FitSays _ _ _) (c .before .why .given .1) (c .before .before .before .fitting .ensures)
 
 enum-told : tie.Need-enum-told
 enum-told c = search needs
 
--- src/lib.rt:157:9
 returns-2 : tie.Need-returns-2
 returns-2 c = let f = told (FitSays _ _ _) (c .before .enum-told .given .1) (c .before .before .before .fitting .ensures) in (f, c .if1 .taken)
 
--- src/lib.rt:159:11
 lowest-requires : tie.Need-lowest-requires
 lowest-requires c κs = let f = told (FitSays _ _ _) (c .before .enum-told .given .1) (c .before .before .before .fitting .ensures) in f .matched .full
 
--- src/lib.rt:160:36
 enum-told-2 : tie.Need-enum-told-2
 enum-told-2 c = search needs
 
--- src/lib.rt:161:36
 enum-told-3 : tie.Need-enum-told-3
 enum-told-3 c = search needs
 
--- src/lib.rt:162:21
 enum-known-k : tie.Need-enum-known-k
 enum-known-k c = search needs
 
--- src/lib.rt:163:16
 placed-requires : tie.Need-placed-requires
 placed-requires c κs = search needs
 
--- src/lib.rt:164:17
 returns-3 : tie.Need-returns-3
 returns-3 c = let f = told (FitSays _ _ _) (c .before .before .before .before .before .before .before .enum-told .given .1) (c .before .before .before .before .before .before .before .before .before .fitting .ensures) in offered _ _ _ _ (record { fits = f; client = c .before .before .before .before .before .before .if1 .left }) _ (told (LowestSays _) (c .before .before .before .k .given .1) (c .before .before .before .before .before .lowest .ensures)) (said (c .before .placed .result) (c .if2 .taken) (c .before .placed .ensures))
 
--- src/lib.rt:147:1
 returns-4 : tie.Need-returns-4
 returns-4 c = let f = told (FitSays _ _ _) (c .before .before .before .before .enum-told .given .1) (c .before .before .before .before .before .before .fitting .ensures) in let e = told (LowestSays _) (c .enum-told2 .given .1) (c .before .before .lowest .ensures) in (record { fits = f; client = c .before .before .before .if1 .left }, e .0, λ a. none-free _ _ (e .1 a))
 
--- src/lib.rt:147:1
 returns-5 : tie.Need-returns-5
 returns-5 c = let f = told (FitSays _ _ _) (c .before .before .before .before .enum-told .given .1) (c .before .before .before .before .before .before .fitting .ensures) in let e = told (LowestSays _) (c .enum-told3 .given .1) (c .before .before .lowest .ensures) in (record { fits = f; client = c .before .before .before .if1 .left }, λ a. e (a .agree))
 
--- src/lib.rt:147:1
 returns-6 : tie.Need-returns-6
 returns-6 c = let f = told (FitSays _ _ _) (c .before .before .before .before .before .before .before .enum-told .given .1) (c .before .before .before .before .before .before .before .before .before .fitting .ensures) in (record { fits = f; client = c .before .before .before .before .before .before .if1 .left }, misplaced _ _ _ (c .before .before .before .before .before .before .before .before .before .before .before .before .args .c) (record { fits = f; client = c .before .before .before .before .before .before .if1 .left }) _ (told (LowestSays _) (c .before .before .before .k .given .1) (c .before .before .before .before .before .lowest .ensures)) (unsaid (c .before .placed .result) (c .if2 .left) (c .before .placed .ensures)))
 

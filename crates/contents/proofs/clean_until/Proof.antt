@@ -1,13 +1,10 @@
+-- `contents::clean_until` meets its contract. Assumes nothing.
 use borrow.Author.Needs.{needs}
 use Rattle.contents.proofs.clean_until.Statement.{statement}
 use Rattle.contents.proofs.clean_until.Tie as tie
-use Rattle.contents.proofs.clean_until.Reads as reads
-use Rattle.contents.proofs.clean_until.Lts as lts
-use Rattle.contents.proofs.is_clean.Reads as is-clean-reads
-use Prim.Native.Nat.{ℕ, _-_, _/_, _≤_}
 use mathlib.Core.Path.{_≡_}
+use Prim.Native.Nat.{_-_, _≤_}
 use native.Mathlib.Omega.{arith}
-use lib.ListN.{length}
 use Rattle.base.specs.Search.{Stops}
 use Rattle.base.proofs.Says.{refused, not-refused}
 use Rattle.base.proofs.Search.{stops-none, stops-more, stops-at}
@@ -21,31 +18,24 @@ Inv-loop tree owners words n k₀ k = (k ≤ framesIn words) × Stops (λ m. fre
 abbrev μ-loop : tie.MeasureT-loop
 μ-loop tree owners words n k₀ k = framesIn words - k
 
--- src/lib.rt:124:5
 loop-holds : tie.Need-loop-holds Inv-loop μ-loop
 loop-holds c = (omega arith, stops-none _)
 
--- src/lib.rt:125:13
 is-clean-requires : tie.Need-is-clean-requires Inv-loop μ-loop
 is-clean-requires c κs = let m = c .before .before .before .before .before .pre .0 .bytes in let f = c .before .before .before .before .before .pre .1 .few in let b = full-bound _ (c .before .before .before .before .before .pre .0 .full) in (omega arith, omega arith, b .0)
 
--- src/lib.rt:126:13
 returns : tie.Need-returns Inv-loop μ-loop
 returns c = let i = c .before .before .before .loop .inv in stops-at _ (i .1) (i .0) (λ _. refused (c .before .is-clean .result) (c .if1 .taken) (c .before .is-clean .ensures))
 
--- src/lib.rt:128:9
 add-k : tie.Need-add-k Inv-loop μ-loop
 add-k c = search needs
 
--- src/lib.rt:124:5
 loop-less : tie.Need-loop-less Inv-loop μ-loop
 loop-less c = search needs
 
--- src/lib.rt:124:5
 loop-again : tie.Need-loop-again Inv-loop μ-loop
 loop-again c = let i = c .before .before .before .loop .inv in (omega arith, stops-more (i .1) (not-refused (c .before .is-clean .result) (c .if1 .left) (c .before .is-clean .ensures)))
 
--- src/lib.rt:118:1
 returns-2 : tie.Need-returns-2 Inv-loop μ-loop
 returns-2 c = let i = c .before .loop .inv in stops-at _ (i .1) (omega arith) (λ l. absurd (omega arith))
 

@@ -1,12 +1,10 @@
+-- `contents::empty` meets its contract. Assumes nothing.
 use borrow.Author.Needs.{needs}
 use Rattle.contents.proofs.empty.Statement.{statement}
 use Rattle.contents.proofs.empty.Tie as tie
-use Rattle.contents.proofs.empty.Reads as reads
-use Rattle.contents.proofs.empty.Lts as lts
-use Prim.Native.Nat.{_-_, _≤_}
 use mathlib.Core.Path.{_≡_}
+use Prim.Native.Nat.{_-_, _≤_}
 use native.Mathlib.Omega.{arith}
-use lib.ListN.{length}
 use Rattle.contents.specs.Contents.{Emptied}
 use Rattle.contents.proofs.Words.{empty-none, empty-more}
 
@@ -16,35 +14,27 @@ Inv-loop words₀ p q j₀ words j = (p ≤ j) × (j ≤ q) × Emptied words₀ 
 abbrev μ-loop : tie.MeasureT-loop
 μ-loop words₀ p q j₀ words j = q - j
 
--- src/lib.rt:28:5
 loop-holds : tie.Need-loop-holds Inv-loop μ-loop
 loop-holds c = (omega arith, omega arith, empty-none _ _)
 
--- src/lib.rt:29:9
 mul-words : tie.Need-mul-words Inv-loop μ-loop
 mul-words c = search needs
 
--- src/lib.rt:29:9
 slice-write-words : tie.Need-slice-write-words Inv-loop μ-loop
 slice-write-words c = let f = c .before .loop .inv .2 in let l = f .long in omega arith
 
--- src/lib.rt:30:9
 add-j : tie.Need-add-j Inv-loop μ-loop
 add-j c = search needs
 
--- src/lib.rt:28:5
 loop-less : tie.Need-loop-less Inv-loop μ-loop
 loop-less c = search needs
 
--- src/lib.rt:28:5
 loop-again : tie.Need-loop-again Inv-loop μ-loop
 loop-again c = let i = c .before .loop .inv in let l = i .2 .long in (omega arith, omega arith, empty-more _ _ _ _ (i .0) (omega arith) (i .2))
 
--- src/lib.rt:23:1
 same-length : tie.Need-same-length Inv-loop μ-loop
 same-length c = c .before .loop .inv .2 .long
 
--- src/lib.rt:23:1
 returns : tie.Need-returns Inv-loop μ-loop
 returns c = let i = c .before .loop .inv in let e : c .before .loop .j ≡ c .before .before .args .q = omega arith in rw e at (i .2)
 

@@ -1,11 +1,9 @@
+-- `contents::others_until` meets its contract. Assumes nothing.
 use borrow.Author.Needs.{needs}
 use Rattle.contents.proofs.others_until.Statement.{statement}
 use Rattle.contents.proofs.others_until.Tie as tie
-use Rattle.contents.proofs.others_until.Reads as reads
-use Rattle.contents.proofs.others_until.Lts as lts
-use Rattle.owner_passes.proofs.one_if_owned.Reads as one-if-owned-reads
-use Prim.Native.Nat.{ℕ, _-_, _≤_}
-use mathlib.Core.Path.{_≡_, sym, _∙_}
+use mathlib.Core.Path.{_≡_, _∙_}
+use Prim.Native.Nat.{_-_, _≤_}
 use native.Mathlib.Omega.{arith}
 use lib.ListN.{length}
 use Rattle.base.specs.Search.{Stops}
@@ -20,31 +18,24 @@ Inv-loop tree owners n c k₀ k = (k ≤ length owners) × Stops (λ m. state tr
 abbrev μ-loop : tie.MeasureT-loop
 μ-loop tree owners n c k₀ k = length owners - k
 
--- src/lib.rt:62:5
 loop-holds : tie.Need-loop-holds Inv-loop μ-loop
 loop-holds c = let m = c .before .before .pre .0 .bytes in (omega arith, stops-none _)
 
--- src/lib.rt:63:12
 one-if-owned-requires : tie.Need-one-if-owned-requires Inv-loop μ-loop
 one-if-owned-requires c κs = let m = c .before .before .before .before .pre .0 .bytes in (c .before .before .before .before .pre .0, omega arith, c .before .before .before .before .pre .2)
 
--- src/lib.rt:64:13
 returns : tie.Need-returns Inv-loop μ-loop
 returns c = let i = c .before .before .before .loop .inv in let m = c .before .before .before .before .before .before .pre .0 .bytes in stops-at _ (i .1) (omega arith) (λ _ e. counts _ _ _ (c .before .one-if-owned .ensures) (c .if1 .taken) e)
 
--- src/lib.rt:66:9
 add-k : tie.Need-add-k Inv-loop μ-loop
 add-k c = search needs
 
--- src/lib.rt:62:5
 loop-less : tie.Need-loop-less Inv-loop μ-loop
 loop-less c = search needs
 
--- src/lib.rt:62:5
 loop-again : tie.Need-loop-again Inv-loop μ-loop
 loop-again c = let i = c .before .before .before .loop .inv in (omega arith, stops-more (i .1) (λ e. c .if1 .left (c .before .one-if-owned .ensures ∙ owns-one _ _ e)))
 
--- src/lib.rt:57:1
 returns-2 : tie.Need-returns-2 Inv-loop μ-loop
 returns-2 c = let i = c .before .loop .inv in let m = c .before .before .before .before .pre .0 .bytes in stops-at _ (i .1) (omega arith) (λ l. absurd (omega arith))
 

@@ -1,14 +1,8 @@
-use borrow.Author.Needs.{needs}
+-- `contents::wipe_owned` meets its contract. Assumes nothing.
 use Rattle.contents.proofs.wipe_owned.Statement.{statement}
 use Rattle.contents.proofs.wipe_owned.Tie as tie
-use Rattle.contents.proofs.wipe_owned.Reads as reads
-use Rattle.contents.proofs.wipe_owned.Lts as lts
-use Rattle.contents.proofs.wipe.Reads as wipe-reads
-use Rattle.owner_passes.proofs.one_if_owned.Reads as one-if-owned-reads
-use Prim.Native.Nat.{ℕ, _-_, _/_, _≤_}
-use mathlib.Core.Path.{_≡_, sym, _∙_}
+use Prim.Native.Nat.{_-_, _≤_}
 use native.Mathlib.Omega.{arith}
-use lib.ListN.{length}
 use Rattle.owners.specs.States.{state}
 use Rattle.owner_passes.proofs.Counting.{owns-small}
 use Rattle.contents.specs.Contents.{framesIn}
@@ -20,39 +14,30 @@ Inv-loop tree owners words₀ c n k₀ words k = (k ≤ framesIn words₀) × Wi
 abbrev μ-loop : tie.MeasureT-loop
 μ-loop tree owners words₀ c n k₀ words k = framesIn words₀ - k
 
--- src/lib.rt:49:5
 loop-holds : tie.Need-loop-holds Inv-loop μ-loop
 loop-holds c = (omega arith, wipe-start _ _ _ _)
 
--- src/lib.rt:50:13
 one-if-owned-requires : tie.Need-one-if-owned-requires Inv-loop μ-loop
 one-if-owned-requires c κs = let m = c .before .before .before .before .before .pre .0 .bytes in let f = c .before .before .before .before .before .pre .1 .few in (c .before .before .before .before .before .pre .0, omega arith, c .before .before .before .before .before .pre .2)
 
--- src/lib.rt:51:24
 add-wipe : tie.Need-add-wipe Inv-loop μ-loop
 add-wipe c = let s = owns-small (c .before .before .before .before .before .before .before .args .c) (state (c .before .before .before .before .before .before .before .args .tree .now) (c .before .before .before .before .before .before .before .args .owners .now) (c .before .before .before .loop .k)) in let e = c .before .one-if-owned .ensures in let m = c .before .before .before .before .before .before .before .pre .0 .bytes in let f = c .before .before .before .before .before .before .before .pre .1 .few in omega arith
 
--- src/lib.rt:51:9
 wipe-requires : tie.Need-wipe-requires Inv-loop μ-loop
 wipe-requires c κs = let s = owns-small (c .before .before .before .before .before .before .before .args .c) (state (c .before .before .before .before .before .before .before .args .tree .now) (c .before .before .before .before .before .before .before .args .owners .now) (c .before .before .before .loop .k)) in let e = c .before .one-if-owned .ensures in let l = c .before .before .before .loop .inv .1 .long in (omega arith, omega arith)
 
--- src/lib.rt:52:9
 add-k : tie.Need-add-k Inv-loop μ-loop
 add-k c = let i = c .before .before .before .before .before .before .loop .inv in omega arith
 
--- src/lib.rt:49:5
 loop-less : tie.Need-loop-less Inv-loop μ-loop
 loop-less c = let i = c .before .before .before .before .before .before .loop .inv in omega arith
 
--- src/lib.rt:49:5
 loop-again : tie.Need-loop-again Inv-loop μ-loop
 loop-again c = let i = c .before .before .before .before .before .before .loop .inv in (omega arith, wipe-more _ _ _ _ _ _ _ _ (c .before .before .before .before .one-if-owned .ensures) (i .1) (c .before .before .wipe .ensures))
 
--- src/lib.rt:43:1
 same-length : tie.Need-same-length Inv-loop μ-loop
 same-length c = c .before .loop .inv .1 .long
 
--- src/lib.rt:43:1
 returns : tie.Need-returns Inv-loop μ-loop
 returns c = let i = c .before .loop .inv in wipe-done _ _ _ _ _ _ (omega arith) (i .1)
 

@@ -1,65 +1,47 @@
+-- `frames::alloc` meets its contract. Assumes nothing.
 use borrow.Author.Needs.{needs}
 use Rattle.frames.proofs.alloc.Statement.{statement}
 use Rattle.frames.proofs.alloc.Tie as tie
-use Rattle.frames.proofs.alloc.Reads as reads
-use Rattle.frames.proofs.alloc.Lts as lts
-use Rattle.contents.proofs.is_backed.Reads as is-backed-reads
-use Rattle.global_allocator.proofs.alloc.Reads as alloc-reads
-use mathlib.Core.Path.{_≡_, refl, sym, _∙_}
-use native.Mathlib.Omega.{arith}
-use lib.ListN.{length}
+use mathlib.Core.Path.{refl}
 use Rattle.base.proofs.Says.{told, refused, not-refused}
-use Rattle.bitmap_tree.proofs.Fullness.{full-bound}
 use Rattle.contents.specs.Contents.{Backed}
 use Rattle.global_allocator.specs.Changes.{AllocSays}
-use Rattle.global_allocator.proofs.Writes.{kept}
+use Rattle.owners.proofs.Writes.{kept}
 use Rattle.frames.proofs.Cleaning.{gave}
 
--- src/lib.rt:138:9
 is-backed-requires : tie.Need-is-backed-requires
 is-backed-requires c κs = search needs
 
--- src/lib.rt:139:9
 same-length : tie.Need-same-length
-same-length c = search needs
+same-length c = refl
 
--- src/lib.rt:139:9
 returns : tie.Need-returns
 returns c = (kept _ _, refused (c .before .is-backed .result) (c .if1 .taken) (c .before .is-backed .ensures))
 
--- src/lib.rt:141:11
 alloc-requires : tie.Need-alloc-requires
 alloc-requires c κs = search needs
 
--- src/lib.rt:142:23
 enum-known-addr : tie.Need-enum-known-addr
 enum-known-addr c = search needs
 
--- src/lib.rt:143:23
 enum-known-why : tie.Need-enum-known-why
 enum-known-why c = search needs
 
--- src/lib.rt:135:1
 same-length-2 : tie.Need-same-length-2
 same-length-2 c = search needs
 
--- src/lib.rt:135:1
 same-length-3 : tie.Need-same-length-3
 same-length-3 c = search needs
 
--- src/lib.rt:135:1
 returns-2 : tie.Need-returns-2
 returns-2 c = let bk : Backed (c .before .before .before .before .before .before .before .before .before .before .before .before .before .before .before .before .args .owners .now) (c .before .before .before .before .before .before .before .before .before .before .before .before .before .before .before .before .args .words .now) = not-refused (c .before .before .before .before .before .before .before .before .before .before .before .is-backed .result) (c .before .before .before .before .before .before .before .before .before .before .if1 .left) (c .before .before .before .before .before .before .before .before .before .before .before .is-backed .ensures) in gave _ _ _ _ _ _ _ _ bk (told (AllocSays _ _ _ _ _ _) (c .before .addr .given .1) (c .before .before .before .before .before .before .before .alloc .ensures))
 
--- src/lib.rt:135:1
 same-length-4 : tie.Need-same-length-4
 same-length-4 c = search needs
 
--- src/lib.rt:135:1
 same-length-5 : tie.Need-same-length-5
 same-length-5 c = search needs
 
--- src/lib.rt:135:1
 returns-3 : tie.Need-returns-3
 returns-3 c = let bk : Backed (c .before .before .before .before .before .before .before .before .before .before .before .before .before .before .before .before .args .owners .now) (c .before .before .before .before .before .before .before .before .before .before .before .before .before .before .before .before .args .words .now) = not-refused (c .before .before .before .before .before .before .before .before .before .before .before .is-backed .result) (c .before .before .before .before .before .before .before .before .before .before .if1 .left) (c .before .before .before .before .before .before .before .before .before .before .before .is-backed .ensures) in let e = told (AllocSays _ _ _ _ _ _) (c .before .why .given .1) (c .before .before .before .before .before .before .before .alloc .ensures) in (e .0, bk, e .1)
 

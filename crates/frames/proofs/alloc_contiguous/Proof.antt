@@ -1,65 +1,47 @@
+-- `frames::alloc_contiguous` meets its contract. Assumes nothing.
 use borrow.Author.Needs.{needs}
 use Rattle.frames.proofs.alloc_contiguous.Statement.{statement}
 use Rattle.frames.proofs.alloc_contiguous.Tie as tie
-use Rattle.frames.proofs.alloc_contiguous.Reads as reads
-use Rattle.frames.proofs.alloc_contiguous.Lts as lts
-use Rattle.contents.proofs.is_backed.Reads as is-backed-reads
-use Rattle.global_allocator.proofs.alloc_contiguous.Reads as alloc-contiguous-reads
-use mathlib.Core.Path.{_≡_, refl, sym, _∙_}
-use native.Mathlib.Omega.{arith}
-use lib.ListN.{length}
+use mathlib.Core.Path.{refl}
 use Rattle.base.proofs.Says.{told, refused, not-refused}
-use Rattle.bitmap_tree.proofs.Fullness.{full-bound}
 use Rattle.contents.specs.Contents.{Backed}
 use Rattle.global_allocator.specs.Changes.{RunSays}
-use Rattle.global_allocator.proofs.Writes.{kept}
+use Rattle.owners.proofs.Writes.{kept}
 use Rattle.frames.proofs.Cleaning.{gave-run}
 
--- src/lib.rt:152:9
 is-backed-requires : tie.Need-is-backed-requires
 is-backed-requires c κs = search needs
 
--- src/lib.rt:153:9
 same-length : tie.Need-same-length
-same-length c = search needs
+same-length c = refl
 
--- src/lib.rt:153:9
 returns : tie.Need-returns
 returns c = (kept _ _, refused (c .before .is-backed .result) (c .if1 .taken) (c .before .is-backed .ensures))
 
--- src/lib.rt:155:11
 alloc-contiguous-requires : tie.Need-alloc-contiguous-requires
 alloc-contiguous-requires c κs = search needs
 
--- src/lib.rt:156:26
 enum-known-addr : tie.Need-enum-known-addr
 enum-known-addr c = search needs
 
--- src/lib.rt:157:26
 enum-known-why : tie.Need-enum-known-why
 enum-known-why c = search needs
 
--- src/lib.rt:149:1
 same-length-2 : tie.Need-same-length-2
 same-length-2 c = search needs
 
--- src/lib.rt:149:1
 same-length-3 : tie.Need-same-length-3
 same-length-3 c = search needs
 
--- src/lib.rt:149:1
 returns-2 : tie.Need-returns-2
 returns-2 c = let bk : Backed (c .before .before .before .before .before .before .before .before .before .before .before .before .before .before .before .before .args .owners .now) (c .before .before .before .before .before .before .before .before .before .before .before .before .before .before .before .before .args .words .now) = not-refused (c .before .before .before .before .before .before .before .before .before .before .before .is-backed .result) (c .before .before .before .before .before .before .before .before .before .before .if1 .left) (c .before .before .before .before .before .before .before .before .before .before .before .is-backed .ensures) in gave-run _ _ _ _ _ _ _ _ _ _ bk (told (RunSays _ _ _ _ _ _ _ _) (c .before .addr .given .1) (c .before .before .before .before .before .before .before .alloc-contiguous .ensures))
 
--- src/lib.rt:149:1
 same-length-4 : tie.Need-same-length-4
 same-length-4 c = search needs
 
--- src/lib.rt:149:1
 same-length-5 : tie.Need-same-length-5
 same-length-5 c = search needs
 
--- src/lib.rt:149:1
 returns-3 : tie.Need-returns-3
 returns-3 c = let bk : Backed (c .before .before .before .before .before .before .before .before .before .before .before .before .before .before .before .before .args .owners .now) (c .before .before .before .before .before .before .before .before .before .before .before .before .before .before .before .before .args .words .now) = not-refused (c .before .before .before .before .before .before .before .before .before .before .before .is-backed .result) (c .before .before .before .before .before .before .before .before .before .before .if1 .left) (c .before .before .before .before .before .before .before .before .before .before .before .is-backed .ensures) in let e = told (RunSays _ _ _ _ _ _ _ _) (c .before .why .given .1) (c .before .before .before .before .before .before .before .alloc-contiguous .ensures) in (e .0, bk, e .1)
 

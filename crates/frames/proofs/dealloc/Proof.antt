@@ -1,106 +1,78 @@
+-- `frames::dealloc` meets its contract. Assumes nothing.
 use borrow.Author.Needs.{needs}
 use Rattle.frames.proofs.dealloc.Statement.{statement}
 use Rattle.frames.proofs.dealloc.Tie as tie
-use Rattle.frames.proofs.dealloc.Reads as reads
-use Rattle.frames.proofs.dealloc.Lts as lts
-use Rattle.claims.proofs.may_free.Reads as may-free-reads
-use Rattle.contents.proofs.is_backed.Reads as is-backed-reads
-use Rattle.contents.proofs.wipe.Reads as wipe-reads
-use Rattle.owners.proofs.assign_one.Reads as assign-one-reads
-use mathlib.Core.Path.{_≡_, refl, sym, _∙_}
+use mathlib.Core.Path.{refl}
 use native.Mathlib.Omega.{arith}
-use lib.ListN.{length}
 use Rattle.base.proofs.Says.{told, refused, not-refused}
-use Rattle.bitmap_tree.proofs.Fullness.{full-bound}
 use Rattle.contents.specs.Contents.{Backed}
 use Rattle.claims.specs.Returns.{MayFreeSays}
-use Rattle.frames.proofs.Cleaning.{kept, took-back}
+use Rattle.contents.proofs.Cleaning.{kept-all}
+use Rattle.frames.proofs.Cleaning.{took-back}
 
--- src/lib.rt:165:9
 is-backed-requires : tie.Need-is-backed-requires
 is-backed-requires c κs = search needs
 
--- src/lib.rt:166:9
 same-length : tie.Need-same-length
-same-length c = search needs
+same-length c = refl
 
--- src/lib.rt:166:9
 same-length-2 : tie.Need-same-length-2
-same-length-2 c = search needs
+same-length-2 c = refl
 
--- src/lib.rt:166:9
 returns : tie.Need-returns
-returns c = (kept _ _ _, refused (c .before .is-backed .result) (c .if1 .taken) (c .before .is-backed .ensures))
+returns c = (kept-all _ _ _, refused (c .before .is-backed .result) (c .if1 .taken) (c .before .is-backed .ensures))
 
--- src/lib.rt:168:11
 may-free-requires : tie.Need-may-free-requires
 may-free-requires c κs = search needs
 
--- src/lib.rt:169:21
 enum-known-why : tie.Need-enum-known-why
 enum-known-why c = search needs
 
--- src/lib.rt:170:24
 enum-known-k : tie.Need-enum-known-k
 enum-known-k c = search needs
 
--- src/lib.rt:172:17
 same-length-3 : tie.Need-same-length-3
-same-length-3 c = search needs
+same-length-3 c = refl
 
--- src/lib.rt:172:17
 same-length-4 : tie.Need-same-length-4
-same-length-4 c = search needs
+same-length-4 c = refl
 
--- src/lib.rt:172:17
 same-length-5 : tie.Need-same-length-5
-same-length-5 c = search needs
+same-length-5 c = refl
 
--- src/lib.rt:172:17
 returns-2 : tie.Need-returns-2
-returns-2 c = let bk : Backed (c .before .before .before .before .before .before .before .before .before .before .before .before .before .before .args .owners .now) (c .before .before .before .before .before .before .before .before .before .before .before .before .before .before .args .words .now) = not-refused (c .before .before .before .before .before .before .before .before .is-backed .result) (c .before .before .before .before .before .before .before .if1 .left) (c .before .before .before .before .before .before .before .before .is-backed .ensures) in (kept _ _ _, record { backed = bk; frame = _; mine = told (MayFreeSays _ _ _ _ _) (c .before .before .k .given .1) (c .before .before .before .before .may-free .ensures); past = c .if2 .taken })
+returns-2 c = let bk : Backed (c .before .before .before .before .before .before .before .before .before .before .before .before .before .before .args .owners .now) (c .before .before .before .before .before .before .before .before .before .before .before .before .before .before .args .words .now) = not-refused (c .before .before .before .before .before .before .before .before .is-backed .result) (c .before .before .before .before .before .before .before .if1 .left) (c .before .before .before .before .before .before .before .before .is-backed .ensures) in (kept-all _ _ _, record { backed = bk; frame = _; mine = told (MayFreeSays _ _ _ _ _) (c .before .before .k .given .1) (c .before .before .before .before .may-free .ensures); past = c .if2 .taken })
 
--- src/lib.rt:174:38
 add-wipe : tie.Need-add-wipe
 add-wipe c = omega (arith, c .before .if2 .left)
 
--- src/lib.rt:174:13
 wipe-requires : tie.Need-wipe-requires
 wipe-requires c κs = (omega arith, omega (arith, c .before .if2 .left))
 
--- src/lib.rt:175:13
 assign-one-requires : tie.Need-assign-one-requires
 assign-one-requires c κs = let x = told (MayFreeSays _ _ _ _ _) (c .before .before .before .before .before .before .before .before .k .given .1) (c .before .before .before .before .before .before .before .before .before .before .may-free .ensures) in let w = x .within in (x .known .fits .matched, omega arith, omega arith)
 
--- src/lib.rt:162:1
 same-length-6 : tie.Need-same-length-6
-same-length-6 c = search needs
+same-length-6 c = refl
 
--- src/lib.rt:162:1
 same-length-7 : tie.Need-same-length-7
-same-length-7 c = search needs
+same-length-7 c = refl
 
--- src/lib.rt:162:1
 same-length-8 : tie.Need-same-length-8
-same-length-8 c = search needs
+same-length-8 c = refl
 
--- src/lib.rt:162:1
 returns-3 : tie.Need-returns-3
-returns-3 c = let bk : Backed (c .before .before .before .before .before .before .before .before .before .before .before .before .before .args .owners .now) (c .before .before .before .before .before .before .before .before .before .before .before .before .before .args .words .now) = not-refused (c .before .before .before .before .before .before .before .is-backed .result) (c .before .before .before .before .before .before .if1 .left) (c .before .before .before .before .before .before .before .is-backed .ensures) in (kept _ _ _, bk, told (MayFreeSays _ _ _ _ _) (c .before .why .given .1) (c .before .before .before .may-free .ensures))
+returns-3 c = let bk : Backed (c .before .before .before .before .before .before .before .before .before .before .before .before .before .args .owners .now) (c .before .before .before .before .before .before .before .before .before .before .before .before .before .args .words .now) = not-refused (c .before .before .before .before .before .before .before .is-backed .result) (c .before .before .before .before .before .before .if1 .left) (c .before .before .before .before .before .before .before .is-backed .ensures) in (kept-all _ _ _, bk, told (MayFreeSays _ _ _ _ _) (c .before .why .given .1) (c .before .before .before .may-free .ensures))
 
--- src/lib.rt:162:1
 same-length-9 : tie.Need-same-length-9
-same-length-9 c = search needs
+same-length-9 c = c .before .before .before .before .assign-one .ensures .bits .long
 
--- src/lib.rt:162:1
 same-length-10 : tie.Need-same-length-10
-same-length-10 c = search needs
+same-length-10 c = c .before .before .before .before .assign-one .ensures .bytes .long
 
--- src/lib.rt:162:1
 same-length-11 : tie.Need-same-length-11
-same-length-11 c = search needs
+same-length-11 c = c .before .before .before .before .before .before .before .before .before .wipe .ensures .long
 
--- src/lib.rt:162:1
 returns-4 : tie.Need-returns-4
 returns-4 c = let bk : Backed (c .before .before .before .before .before .before .before .before .before .before .before .before .before .before .before .before .before .before .before .before .before .before .before .before .before .args .owners .now) (c .before .before .before .before .before .before .before .before .before .before .before .before .before .before .before .before .before .before .before .before .before .before .before .before .before .args .words .now) = not-refused (c .before .before .before .before .before .before .before .before .before .before .before .before .before .before .before .before .before .before .before .is-backed .result) (c .before .before .before .before .before .before .before .before .before .before .before .before .before .before .before .before .before .before .if1 .left) (c .before .before .before .before .before .before .before .before .before .before .before .before .before .before .before .before .before .before .before .is-backed .ensures) in took-back _ _ _ _ _ _ _ _ _ bk _ (told (MayFreeSays _ _ _ _ _) (c .before .before .before .before .before .before .before .before .before .before .before .before .before .k .given .1) (c .before .before .before .before .before .before .before .before .before .before .before .before .before .before .before .may-free .ensures)) (c .before .before .before .before .assign-one .ensures) (c .before .before .before .before .before .before .before .before .before .wipe .ensures) (omega (arith, c .before .before .before .before .before .before .before .before .before .before .before .if2 .left))
 

@@ -1,67 +1,50 @@
+-- `global_allocator::alloc_contiguous` meets its contract. Assumes nothing.
 use borrow.Author.Needs.{needs}
 use Rattle.global_allocator.proofs.alloc_contiguous.Statement.{statement}
 use Rattle.global_allocator.proofs.alloc_contiguous.Tie as tie
-use Rattle.global_allocator.proofs.alloc_contiguous.Reads as reads
-use Rattle.global_allocator.proofs.alloc_contiguous.Lts as lts
-use Rattle.claims.proofs.find_run.Reads as find-run-reads
-use Rattle.owners.proofs.assign.Reads as assign-reads
-use mathlib.Core.Path.{_≡_, refl, sym, _∙_}
 use native.Mathlib.Omega.{arith}
-use lib.ListN.{length}
 use Rattle.base.proofs.Says.{told}
 use Rattle.bitmap_tree.proofs.Fullness.{full-bound}
 use Rattle.claims.specs.Offers.{OfferRunSays}
-use Rattle.global_allocator.proofs.Writes.{kept, gave-run}
+use Rattle.owners.proofs.Writes.{kept}
+use Rattle.global_allocator.proofs.Writes.{gave-run}
 
--- src/lib.rt:255:11
 find-run-requires : tie.Need-find-run-requires
 find-run-requires c κs = search needs
 
--- src/lib.rt:256:22
 enum-known-why : tie.Need-enum-known-why
 enum-known-why c = search needs
 
--- src/lib.rt:257:24
 enum-known-s : tie.Need-enum-known-s
 enum-known-s c = search needs
 
--- src/lib.rt:258:45
 add-assign : tie.Need-add-assign
 add-assign c = let x = told (OfferRunSays _ _ _ _ _ _) (c .before .before .before .s .given .1) (c .before .before .before .before .before .find-run .ensures) in let b = full-bound _ (x .known .fits .matched .full) in let l = x .run .fits in omega arith
 
--- src/lib.rt:258:13
 assign-requires : tie.Need-assign-requires
 assign-requires c κs = let x = told (OfferRunSays _ _ _ _ _ _) (c .before .before .before .s .given .1) (c .before .before .before .before .before .find-run .ensures) in let l = x .run .fits in let p = x .some in (x .known .fits .matched, omega arith, omega arith, omega arith)
 
--- src/lib.rt:259:37
 mul-t20 : tie.Need-mul-t20
 mul-t20 c = let x = told (OfferRunSays _ _ _ _ _ _) (c .before .before .before .before .before .before .before .before .s .given .1) (c .before .before .before .before .before .before .before .before .before .before .find-run .ensures) in let p = x .placed in omega arith
 
--- src/lib.rt:259:30
 add-t21 : tie.Need-add-t21
 add-t21 c = let x = told (OfferRunSays _ _ _ _ _ _) (c .before .before .before .before .before .before .before .before .s .given .1) (c .before .before .before .before .before .before .before .before .before .before .find-run .ensures) in let p = x .placed in omega arith
 
--- src/lib.rt:252:1
 same-length : tie.Need-same-length
 same-length c = search needs
 
--- src/lib.rt:252:1
 same-length-2 : tie.Need-same-length-2
 same-length-2 c = search needs
 
--- src/lib.rt:252:1
 returns : tie.Need-returns
 returns c = (kept _ _, told (OfferRunSays _ _ _ _ _ _) (c .before .why .given .1) (c .before .before .before .find-run .ensures))
 
--- src/lib.rt:252:1
 same-length-3 : tie.Need-same-length-3
 same-length-3 c = c .before .before .before .before .assign .ensures .bits .long
 
--- src/lib.rt:252:1
 same-length-4 : tie.Need-same-length-4
 same-length-4 c = c .before .before .before .before .assign .ensures .bytes .long
 
--- src/lib.rt:252:1
 returns-2 : tie.Need-returns-2
 returns-2 c = gave-run _ _ _ _ _ _ _ _ _ (told (OfferRunSays _ _ _ _ _ _) (c .before .before .before .before .before .before .before .before .s .given .1) (c .before .before .before .before .before .before .before .before .before .before .find-run .ensures)) (c .before .before .before .before .assign .ensures)
 

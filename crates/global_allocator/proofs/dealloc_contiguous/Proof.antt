@@ -1,59 +1,44 @@
+-- `global_allocator::dealloc_contiguous` meets its contract. Assumes nothing.
 use borrow.Author.Needs.{needs}
 use Rattle.global_allocator.proofs.dealloc_contiguous.Statement.{statement}
 use Rattle.global_allocator.proofs.dealloc_contiguous.Tie as tie
-use Rattle.global_allocator.proofs.dealloc_contiguous.Reads as reads
-use Rattle.global_allocator.proofs.dealloc_contiguous.Lts as lts
-use Rattle.claims.proofs.may_free_run.Reads as may-free-run-reads
-use Rattle.owners.proofs.assign.Reads as assign-reads
-use mathlib.Core.Path.{_≡_, refl, sym, _∙_}
 use native.Mathlib.Omega.{arith}
-use lib.ListN.{length}
 use Rattle.base.proofs.Says.{told}
 use Rattle.bitmap_tree.proofs.Fullness.{full-bound}
 use Rattle.claims.specs.Returns.{MayFreeRunSays}
-use Rattle.global_allocator.proofs.Writes.{kept, run-freed}
+use Rattle.owners.proofs.Writes.{kept}
+use Rattle.global_allocator.proofs.Writes.{run-freed}
 
--- src/lib.rt:281:11
 may-free-run-requires : tie.Need-may-free-run-requires
 may-free-run-requires c κs = search needs
 
--- src/lib.rt:282:24
 enum-known-why : tie.Need-enum-known-why
 enum-known-why c = search needs
 
--- src/lib.rt:283:26
 enum-known-k : tie.Need-enum-known-k
 enum-known-k c = search needs
 
--- src/lib.rt:284:45
 add-assign : tie.Need-add-assign
 add-assign c = let x = told (MayFreeRunSays _ _ _ _ _ _) (c .before .before .before .k .given .1) (c .before .before .before .before .before .may-free-run .ensures) in let b = full-bound _ (x .known .fits .matched .full) in let l = x .within in omega arith
 
--- src/lib.rt:284:13
 assign-requires : tie.Need-assign-requires
 assign-requires c κs = let x = told (MayFreeRunSays _ _ _ _ _ _) (c .before .before .before .k .given .1) (c .before .before .before .before .before .may-free-run .ensures) in let l = x .within in let p = x .some in (x .known .fits .matched, omega arith, omega arith, omega arith)
 
--- src/lib.rt:278:1
 same-length : tie.Need-same-length
 same-length c = search needs
 
--- src/lib.rt:278:1
 same-length-2 : tie.Need-same-length-2
 same-length-2 c = search needs
 
--- src/lib.rt:278:1
 returns : tie.Need-returns
 returns c = (kept _ _, told (MayFreeRunSays _ _ _ _ _ _) (c .before .why .given .1) (c .before .before .before .may-free-run .ensures))
 
--- src/lib.rt:278:1
 same-length-3 : tie.Need-same-length-3
 same-length-3 c = c .before .before .before .before .assign .ensures .bits .long
 
--- src/lib.rt:278:1
 same-length-4 : tie.Need-same-length-4
 same-length-4 c = c .before .before .before .before .assign .ensures .bytes .long
 
--- src/lib.rt:278:1
 returns-2 : tie.Need-returns-2
 returns-2 c = run-freed _ _ _ _ _ _ _ _ _ (told (MayFreeRunSays _ _ _ _ _ _) (c .before .before .before .before .before .before .before .before .k .given .1) (c .before .before .before .before .before .before .before .before .before .before .may-free-run .ensures)) (c .before .before .before .before .assign .ensures)
 

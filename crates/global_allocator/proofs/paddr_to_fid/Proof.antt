@@ -1,45 +1,31 @@
+-- `global_allocator::paddr_to_fid` meets its contract. Assumes nothing.
 use borrow.Author.Needs.{needs}
 use Rattle.global_allocator.proofs.paddr_to_fid.Statement.{statement}
 use Rattle.global_allocator.proofs.paddr_to_fid.Tie as tie
-use Rattle.global_allocator.proofs.paddr_to_fid.Reads as reads
-use Rattle.global_allocator.proofs.paddr_to_fid.Lts as lts
-use Rattle.claims.proofs.number_at.Reads as number-at-reads
-use mathlib.Core.Path.{_≡_, refl, sym, _∙_}
-use native.Mathlib.Omega.{arith}
-use lib.ListN.{length}
 use Rattle.base.proofs.Says.{told}
-use Rattle.bitmap_tree.proofs.Fullness.{full-bound}
 use Rattle.claims.specs.Returns.{NumberSays}
 
--- src/lib.rt:135:9
 returns : tie.Need-returns
 returns c = search needs
 
--- src/lib.rt:137:11
 number-at-requires : tie.Need-number-at-requires
 number-at-requires c κs = search needs
 
--- src/lib.rt:138:23
 enum-known-k : tie.Need-enum-known-k
 enum-known-k c = search needs
 
--- src/lib.rt:139:26
 enum-told : tie.Need-enum-told
 enum-told c = search needs
 
--- src/lib.rt:140:31
 enum-told-2 : tie.Need-enum-told-2
 enum-told-2 c = search needs
 
--- src/lib.rt:131:1
 returns-2 : tie.Need-returns-2
 returns-2 c = (c .before .before .before .before .if1 .left, told (NumberSays _ _) (c .before .k .given .1) (c .before .before .before .number-at .ensures))
 
--- src/lib.rt:131:1
 returns-3 : tie.Need-returns-3
 returns-3 c = (c .before .before .before .if1 .left, told (NumberSays _ _) (c .enum-told .given .1) (c .before .before .number-at .ensures))
 
--- src/lib.rt:131:1
 returns-4 : tie.Need-returns-4
 returns-4 c = (c .before .before .before .if1 .left, told (NumberSays _ _) (c .enum-told2 .given .1) (c .before .before .number-at .ensures))
 

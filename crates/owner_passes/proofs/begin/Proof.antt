@@ -1,50 +1,37 @@
+-- `owner_passes::begin` meets its contract. Assumes nothing.
 use borrow.Author.Needs.{needs}
 use Rattle.owner_passes.proofs.begin.Statement.{statement}
 use Rattle.owner_passes.proofs.begin.Tie as tie
-use Rattle.owner_passes.proofs.begin.Reads as reads
-use Rattle.owner_passes.proofs.begin.Lts as lts
-use Rattle.bitmap_range.proofs.change.Reads as change-reads
-use Rattle.bitmap_range.proofs.flood.Reads as flood-reads
-use Rattle.owners.proofs.fill.Reads as fill-reads
-use mathlib.Core.Path.{_≡_, refl, sym, _∙_}
+use mathlib.Core.Path.{_∙_}
 use native.Mathlib.Omega.{arith}
 use Rattle.bitmap_tree.proofs.Fullness.{full-bound}
 use Rattle.bitmap_allocator.proofs.Answers.{wiped}
 use Rattle.owner_passes.proofs.Beginning.{change-none, begun}
 
--- src/lib.rt:122:5
 flood-requires : tie.Need-flood-requires
 flood-requires c κs = search needs
 
--- src/lib.rt:123:5
 fill-requires : tie.Need-fill-requires
 fill-requires c κs = search needs
 
--- src/lib.rt:125:9
 change-requires : tie.Need-change-requires
 change-requires c κs = let b = full-bound _ (c .before .before .before .before .before .before .before .before .before .before .before .before .pre .0 .full) in let l = c .before .before .before .before .before .before .before .before .flood .ensures .long in ((c .before .if1 .taken, omega arith), (omega arith, omega arith, omega arith))
 
--- src/lib.rt:116:1
 same-length : tie.Need-same-length
 same-length c = c .before .before .change .ensures .long ∙ c .before .before .before .before .before .before .before .before .before .before .before .flood .ensures .long
 
--- src/lib.rt:116:1
 same-length-2 : tie.Need-same-length-2
 same-length-2 c = c .before .before .before .before .before .before .before .fill .ensures .long
 
--- src/lib.rt:116:1
 returns : tie.Need-returns
 returns c = begun _ _ _ _ (c .before .before .before .before .before .before .before .before .before .before .before .before .before .before .before .pre .0) (wiped _ _ (c .before .before .before .before .before .before .before .before .before .before .before .before .before .before .before .pre .0 .full) (c .before .before .before .before .before .before .before .before .before .before .before .flood .ensures)) (c .before .before .before .before .before .before .before .fill .ensures) _ _ (c .before .before .change .ensures)
 
--- src/lib.rt:116:1
 same-length-3 : tie.Need-same-length-3
 same-length-3 c = c .before .before .before .before .before .before .before .flood .ensures .long
 
--- src/lib.rt:116:1
 same-length-4 : tie.Need-same-length-4
 same-length-4 c = c .before .before .before .fill .ensures .long
 
--- src/lib.rt:116:1
 returns-2 : tie.Need-returns-2
 returns-2 c = begun _ _ _ _ (c .before .before .before .before .before .before .before .before .before .before .before .pre .0) (wiped _ _ (c .before .before .before .before .before .before .before .before .before .before .before .pre .0 .full) (c .before .before .before .before .before .before .before .flood .ensures)) (c .before .before .before .fill .ensures) _ _ (change-none _ _ _ _ (omega arith))
 

@@ -1,40 +1,28 @@
+-- `owner_passes::in_order` meets its contract. Assumes nothing.
 use borrow.Author.Needs.{needs}
 use Rattle.owner_passes.proofs.in_order.Statement.{statement}
 use Rattle.owner_passes.proofs.in_order.Tie as tie
-use Rattle.owner_passes.proofs.in_order.Reads as reads
-use Rattle.owner_passes.proofs.in_order.Lts as lts
-use Rattle.owner_passes.proofs.placed.Reads as placed-reads
-use mathlib.Core.Path.{_≡_, sym, _∙_}
-use mathlib.Core.Bool.{Bool, true, false}
 use native.Mathlib.Omega.{arith}
-use Rattle.base.specs.Says.{Says}
 use Rattle.owner_passes.proofs.Order.{says-iff, nobody-right, open-right, client-right, right-free, right-client}
 
--- src/lib.rt:53:13
 returns : tie.Need-returns
 returns c = nobody-right _ _ _ _ (c .before .if1 .taken) (c .if2 .taken)
 
--- src/lib.rt:55:9
 placed-requires : tie.Need-placed-requires
 placed-requires c κs = search needs
 
--- src/lib.rt:55:9
 returns-2 : tie.Need-returns-2
 returns-2 c = let l = c .before .before .before .pre in says-iff (c .placed .result) (open-right _ _ _ _ (c .before .before .if1 .taken) (omega (arith, c .before .if2 .left))) (right-free _ _ _ _ (omega (arith, c .before .if2 .left))) (c .placed .ensures)
 
--- src/lib.rt:58:9
 returns-3 : tie.Need-returns-3
 returns-3 c = λ r. let k = r .known (c .before .if1 .left) in omega (arith, c .if3 .taken)
 
--- src/lib.rt:61:9
 returns-4 : tie.Need-returns-4
 returns-4 c = λ r. c .before .before .if1 .left (r .nobody (c .if4 .taken))
 
--- src/lib.rt:63:5
 placed-requires-2 : tie.Need-placed-requires-2
 placed-requires-2 c κs = search needs
 
--- src/lib.rt:47:1
 returns-5 : tie.Need-returns-5
 returns-5 c = let l = c .before .before .before .before .pre in says-iff (c .placed2 .result) (client-right _ _ _ _ (omega (arith, c .before .before .if3 .left)) (omega (arith, c .before .if4 .left))) (right-client _ _ _ _ (omega (arith, c .before .before .if3 .left))) (c .placed2 .ensures)
 

@@ -1,10 +1,9 @@
+-- `owner_passes::other_until` meets its contract. Assumes nothing.
 use borrow.Author.Needs.{needs}
 use Rattle.owner_passes.proofs.other_until.Statement.{statement}
 use Rattle.owner_passes.proofs.other_until.Tie as tie
-use Rattle.owner_passes.proofs.other_until.Reads as reads
-use Rattle.owner_passes.proofs.other_until.Lts as lts
-use Prim.Native.Nat.{ℕ, _-_, _≤_}
 use mathlib.Core.Path.{_≡_, sym, _∙_}
+use Prim.Native.Nat.{_-_, _≤_}
 use native.Mathlib.Omega.{arith}
 use lib.ListN.{length, getD}
 use Rattle.base.specs.Search.{Stops}
@@ -17,31 +16,24 @@ Inv-loop owners a c k₀ k = (k ≤ length owners) × Stops (λ m. getD owners m
 abbrev μ-loop : tie.MeasureT-loop
 μ-loop owners a c k₀ k = length owners - k
 
--- src/lib.rt:89:5
 loop-holds : tie.Need-loop-holds Inv-loop μ-loop
 loop-holds c = (omega arith, stops-none _)
 
--- src/lib.rt:90:12
 shared-slice-read-if1 : tie.Need-shared-slice-read-if1 Inv-loop μ-loop
 shared-slice-read-if1 c = search needs
 
--- src/lib.rt:91:13
 returns : tie.Need-returns Inv-loop μ-loop
 returns c = let i = c .before .before .before .loop .inv in stops-at _ (i .1) (i .0) (λ l n. n (sym (byte-at (c .before .before .before .before .args .owners .now) (c .before .before .before .loop .k) (omega arith)) ∙ c .if1 .taken))
 
--- src/lib.rt:93:9
 add-k : tie.Need-add-k Inv-loop μ-loop
 add-k c = search needs
 
--- src/lib.rt:89:5
 loop-less : tie.Need-loop-less Inv-loop μ-loop
 loop-less c = search needs
 
--- src/lib.rt:89:5
 loop-again : tie.Need-loop-again Inv-loop μ-loop
 loop-again c = let i = c .before .before .before .loop .inv in (omega arith, stops-more (i .1) (λ e. c .if1 .left (byte-at (c .before .before .before .before .args .owners .now) (c .before .before .before .loop .k) (omega arith) ∙ e)))
 
--- src/lib.rt:84:1
 returns-2 : tie.Need-returns-2 Inv-loop μ-loop
 returns-2 c = let i = c .before .loop .inv in stops-at _ (i .1) (i .0) (λ l. absurd (omega arith))
 

@@ -1,30 +1,22 @@
+-- `owners::assign` meets its contract. Assumes nothing.
 use borrow.Author.Needs.{needs}
 use Rattle.owners.proofs.assign.Statement.{statement}
 use Rattle.owners.proofs.assign.Tie as tie
-use Rattle.owners.proofs.assign.Reads as reads
-use Rattle.owners.proofs.assign.Lts as lts
-use Rattle.bitmap_range.proofs.change.Reads as change-reads
-use Rattle.owners.proofs.fill.Reads as fill-reads
 use native.Mathlib.Omega.{arith}
 use Rattle.bitmap_tree.proofs.Fullness.{full-bound}
 
--- src/lib.rt:37:5
 change-requires : tie.Need-change-requires
 change-requires c κs = let b = full-bound _ (c .before .before .before .pre .0 .full) in ((c .before .before .before .pre .1, c .before .before .before .pre .2), (b .0, b .1, c .before .before .before .pre .3))
 
--- src/lib.rt:38:5
 fill-requires : tie.Need-fill-requires
 fill-requires c κs = let e = c .before .before .before .before .before .before .before .pre .0 .bytes in (omega arith, omega arith)
 
--- src/lib.rt:33:1
 same-length : tie.Need-same-length
 same-length c = search needs
 
--- src/lib.rt:33:1
 same-length-2 : tie.Need-same-length-2
 same-length-2 c = c .before .before .fill .ensures .long
 
--- src/lib.rt:33:1
 returns : tie.Need-returns
 returns c = record { bits = c .before .before .before .before .before .before .change .ensures; bytes = c .before .before .fill .ensures }
 

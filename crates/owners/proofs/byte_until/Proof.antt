@@ -1,12 +1,11 @@
+-- `owners::byte_until` meets its contract. Assumes nothing.
 use borrow.Author.Needs.{needs}
 use Rattle.owners.proofs.byte_until.Statement.{statement}
 use Rattle.owners.proofs.byte_until.Tie as tie
-use Rattle.owners.proofs.byte_until.Reads as reads
-use Rattle.owners.proofs.byte_until.Lts as lts
-use Prim.Native.Nat.{ℕ, _-_, _≤_}
 use mathlib.Core.Path.{_≡_, sym, _∙_}
+use Prim.Native.Nat.{_-_, _≤_}
 use native.Mathlib.Omega.{arith}
-use lib.ListN.{length, getD}
+use lib.ListN.{getD}
 use Rattle.base.specs.Search.{Stops}
 use Rattle.base.proofs.Search.{stops-none, stops-more, stops-at}
 use Rattle.owners.proofs.Writes.{byte-at}
@@ -17,31 +16,24 @@ Inv-loop owners a b c k₀ k = (k ≤ b) × Stops (λ m. getD owners m 255 ≡ c
 abbrev μ-loop : tie.MeasureT-loop
 μ-loop owners a b c k₀ k = b - k
 
--- src/lib.rt:47:5
 loop-holds : tie.Need-loop-holds Inv-loop μ-loop
 loop-holds c = (omega arith, stops-none _)
 
--- src/lib.rt:48:12
 shared-slice-read-if1 : tie.Need-shared-slice-read-if1 Inv-loop μ-loop
 shared-slice-read-if1 c = search needs
 
--- src/lib.rt:49:13
 returns : tie.Need-returns Inv-loop μ-loop
 returns c = let i = c .before .before .before .loop .inv in stops-at _ (i .1) (i .0) (λ l e. c .if1 .taken (byte-at (c .before .before .before .before .args .owners .now) (c .before .before .before .loop .k) (omega arith) ∙ e))
 
--- src/lib.rt:51:9
 add-k : tie.Need-add-k Inv-loop μ-loop
 add-k c = search needs
 
--- src/lib.rt:47:5
 loop-less : tie.Need-loop-less Inv-loop μ-loop
 loop-less c = search needs
 
--- src/lib.rt:47:5
 loop-again : tie.Need-loop-again Inv-loop μ-loop
 loop-again c = let i = c .before .before .before .loop .inv in (omega arith, stops-more (i .1) (sym (byte-at (c .before .before .before .before .args .owners .now) (c .before .before .before .loop .k) (omega arith)) ∙ c .if1 .left))
 
--- src/lib.rt:42:1
 returns-2 : tie.Need-returns-2 Inv-loop μ-loop
 returns-2 c = let i = c .before .loop .inv in stops-at _ (i .1) (i .0) (λ l. absurd (omega arith))
 

@@ -1,12 +1,10 @@
+-- `owners::fill` meets its contract. Assumes nothing.
 use borrow.Author.Needs.{needs}
 use Rattle.owners.proofs.fill.Statement.{statement}
 use Rattle.owners.proofs.fill.Tie as tie
-use Rattle.owners.proofs.fill.Reads as reads
-use Rattle.owners.proofs.fill.Lts as lts
+use mathlib.Core.Path.{_≡_}
 use Prim.Native.Nat.{_-_, _≤_}
-use mathlib.Core.Path.{subst, _≡_}
 use native.Mathlib.Omega.{arith}
-use lib.ListN.{length}
 use Rattle.owners.specs.Writes.{Filled}
 use Rattle.owners.proofs.Writes.{fill-none, fill-more}
 
@@ -16,31 +14,24 @@ Inv-loop owners₀ a b c k₀ owners k = (a ≤ k) × (k ≤ b) × Filled owners
 abbrev μ-loop : tie.MeasureT-loop
 μ-loop owners₀ a b c k₀ owners k = b - k
 
--- src/lib.rt:16:5
 loop-holds : tie.Need-loop-holds Inv-loop μ-loop
 loop-holds c = (omega arith, omega arith, fill-none _ _ _)
 
--- src/lib.rt:17:9
 slice-write-owners : tie.Need-slice-write-owners Inv-loop μ-loop
 slice-write-owners c = let f = c .before .loop .inv .2 in let l = f .long in omega arith
 
--- src/lib.rt:18:9
 add-k : tie.Need-add-k Inv-loop μ-loop
 add-k c = search needs
 
--- src/lib.rt:16:5
 loop-less : tie.Need-loop-less Inv-loop μ-loop
 loop-less c = search needs
 
--- src/lib.rt:16:5
 loop-again : tie.Need-loop-again Inv-loop μ-loop
 loop-again c = let i = c .before .loop .inv in let l = i .2 .long in (omega arith, omega arith, fill-more _ _ _ _ _ (i .0) (omega arith) (i .2))
 
--- src/lib.rt:11:1
 same-length : tie.Need-same-length Inv-loop μ-loop
 same-length c = c .before .loop .inv .2 .long
 
--- src/lib.rt:11:1
 returns : tie.Need-returns Inv-loop μ-loop
 returns c = let i = c .before .loop .inv in let e : c .before .loop .k ≡ c .before .before .args .b = omega arith in rw e at (i .2)
 

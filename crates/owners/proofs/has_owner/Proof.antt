@@ -1,35 +1,26 @@
-use borrow.Author.Needs.{needs}
+-- `owners::has_owner` meets its contract. Assumes nothing.
 use Rattle.owners.proofs.has_owner.Statement.{statement}
 use Rattle.owners.proofs.has_owner.Tie as tie
-use Rattle.owners.proofs.has_owner.Reads as reads
-use Rattle.owners.proofs.has_owner.Lts as lts
-use Rattle.bitmap_tree.proofs.read.Reads as read-reads
-use mathlib.Core.Path.{sym, _∙_, _≡_}
+use mathlib.Core.Path.{sym, _∙_}
 use native.Mathlib.Omega.{arith}
 use Rattle.bitmap_tree.proofs.Fullness.{full-bound}
 use Rattle.owners.proofs.Writes.{byte-at, unnamed, free-unowned, named}
 
--- src/lib.rt:70:8
 shared-slice-read-if1 : tie.Need-shared-slice-read-if1
 shared-slice-read-if1 c = let e = c .before .before .before .pre .0 .bytes in omega arith
 
--- src/lib.rt:71:9
 returns : tie.Need-returns
 returns c = let e = c .before .before .before .before .pre .0 .bytes in let x = byte-at (c .before .before .before .before .args .owners .now) (c .before .before .before .before .args .k) (omega arith) in unnamed _ _ _ (omega arith)
 
--- src/lib.rt:73:32
 add-read : tie.Need-add-read
 add-read c = let b = full-bound _ (c .before .before .before .before .pre .0 .full) in omega arith
 
--- src/lib.rt:73:8
 read-requires : tie.Need-read-requires
 read-requires c κs = let b = full-bound _ (c .before .before .before .before .pre .0 .full) in (omega arith, omega arith)
 
--- src/lib.rt:66:1
 returns-2 : tie.Need-returns-2
 returns-2 c = let e = c .before .before .before .before .before .before .pre .0 .bytes in let x = byte-at (c .before .before .before .before .before .before .args .owners .now) (c .before .before .before .before .before .before .args .k) (omega arith) in named _ _ _ (sym (c .before .read .ensures) ∙ c .if2 .taken) (omega arith)
 
--- src/lib.rt:66:1
 returns-3 : tie.Need-returns-3
 returns-3 c = free-unowned _ _ _ (λ q. c .if2 .left (c .before .read .ensures ∙ q))
 

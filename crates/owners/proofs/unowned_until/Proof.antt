@@ -1,9 +1,7 @@
+-- `owners::unowned_until` meets its contract. Assumes nothing.
 use borrow.Author.Needs.{needs}
 use Rattle.owners.proofs.unowned_until.Statement.{statement}
 use Rattle.owners.proofs.unowned_until.Tie as tie
-use Rattle.owners.proofs.unowned_until.Reads as reads
-use Rattle.owners.proofs.unowned_until.Lts as lts
-use Rattle.owners.proofs.has_owner.Reads as has-owner-reads
 use Prim.Native.Nat.{_-_, _≤_}
 use native.Mathlib.Omega.{arith}
 use Rattle.base.specs.Search.{Stops}
@@ -17,31 +15,24 @@ Inv-loop tree owners a b k₀ k = (k ≤ b) × Stops (Unowned tree owners) a k k
 abbrev μ-loop : tie.MeasureT-loop
 μ-loop tree owners a b k₀ k = b - k
 
--- src/lib.rt:82:5
 loop-holds : tie.Need-loop-holds Inv-loop μ-loop
 loop-holds c = (omega arith, stops-none _)
 
--- src/lib.rt:83:12
 has-owner-requires : tie.Need-has-owner-requires Inv-loop μ-loop
 has-owner-requires c κs = (c .before .before .before .before .pre .0, omega arith)
 
--- src/lib.rt:84:13
 returns : tie.Need-returns Inv-loop μ-loop
 returns c = let i = c .before .before .before .loop .inv in stops-at _ (i .1) (i .0) (λ _ u. u (said (c .before .has-owner .result) (c .if1 .taken) (c .before .has-owner .ensures)))
 
--- src/lib.rt:86:9
 add-k : tie.Need-add-k Inv-loop μ-loop
 add-k c = search needs
 
--- src/lib.rt:82:5
 loop-less : tie.Need-loop-less Inv-loop μ-loop
 loop-less c = search needs
 
--- src/lib.rt:82:5
 loop-again : tie.Need-loop-again Inv-loop μ-loop
 loop-again c = let i = c .before .before .before .loop .inv in (omega arith, stops-more (i .1) (unsaid (c .before .has-owner .result) (c .if1 .left) (c .before .has-owner .ensures)))
 
--- src/lib.rt:77:1
 returns-2 : tie.Need-returns-2 Inv-loop μ-loop
 returns-2 c = let i = c .before .loop .inv in stops-at _ (i .1) (i .0) (λ l. absurd (omega arith))
 

@@ -1,0 +1,2 @@
+-- From what was written to what the contracts say (`Writes`).
+pub mod Writes

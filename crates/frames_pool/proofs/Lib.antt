@@ -1,0 +1,2 @@
+-- What keeps the memories clean (`Cleaning`).
+pub mod Cleaning
