@@ -1,5 +1,5 @@
 """Runs the Rust that stands beside the proofs, and makes results of what it says. rust/README.md says what
-it is. The archive is that of the crates as they are: `rt ci` proves them first.
+it is. The archives are those of the crates as they are: `rt ci` proves them first.
 
 Each check takes a repository and yields a result for each thing that it looks at."""
 import os
@@ -12,8 +12,9 @@ from toolchain import run
 
 NEEDED = "the Debian packages cargo and rustc, version 1.63 or later"
 PROGRAMS = "rust/target/release"
+ARCHIVES = ["replayframes", "replayframes_allocator", "replayframes_frames"]
 
-# The quick comparison takes about half a minute; one that does not end is a failure.
+# The quick comparison takes about a minute; one that does not end is a failure.
 SECONDS = "600"
 
 
@@ -24,23 +25,25 @@ def stripped(repository):
 
 
 def archived(repository):
-    """`rt staticlib`: the proved functions are built into an archive."""
-    status, _ = run(repository, "rt", "staticlib", "replayframes")
-    yield Result("rt staticlib replayframes", "" if status == 0 else f"ended with status {status}")
+    """`rt staticlib`: the proved functions are built into archives."""
+    for name in ARCHIVES:
+        status, _ = run(repository, "rt", "staticlib", name)
+        yield Result(f"rt staticlib {name}", "" if status == 0 else f"ended with status {status}")
 
 
 def built(repository):
-    """The Rust programs are built, with the archive, and with nothing from the network."""
+    """The Rust programs are built, with the archives, and with nothing from the network."""
     fault = cargo_is_missing()
     if not fault:
         words = ["cargo", "build", "--release", "--offline", "--locked", "--manifest-path", "rust/Cargo.toml"]
-        status, _ = run(repository, "env", "-u", "REPLAYFRAMES_ARCHIVE", *words)
+        unset = [word for name in ARCHIVES for word in ("-u", f"{name.upper()}_ARCHIVE")]
+        status, _ = run(repository, "env", *unset, *words)
         fault = "" if status == 0 else f"ended with status {status}"
     yield Result("cargo build", fault)
 
 
 def compared(repository):
-    """`compare quick`: ours answers as upstream and a plain array do, and differs as the findings say."""
+    """`compare quick`: ours answers as upstream and plain models do, and differs as the findings say."""
     yield from counted(*run_program(repository, "timeout", SECONDS, f"{PROGRAMS}/compare", "quick"))
 
 

@@ -1,28 +1,43 @@
-//! Tells the linker where the proved archive is. It runs no prover: the archive must be there.
+//! Tells the linker where the proved archives are. It runs no prover: they must be there.
 use std::env;
+use std::fs;
 use std::path::{Path, PathBuf};
 
-/// The archive that `REPLAYFRAMES_ARCHIVE` names, or else the one that `rt staticlib` writes.
-fn archive() -> PathBuf {
-    match env::var_os("REPLAYFRAMES_ARCHIVE") {
+/// The crates whose archives are linked.
+const ARCHIVES: [&str; 3] = ["replayframes", "replayframes_allocator", "replayframes_frames"];
+
+/// A folder that cargo names.
+fn folder(variable: &str) -> PathBuf {
+    PathBuf::from(env::var_os(variable).expect("cargo names the folder"))
+}
+
+/// The archive that a variable names, or else the one that `rt staticlib` writes.
+fn archive(name: &str, variable: &str) -> PathBuf {
+    match env::var_os(variable) {
         Some(path) => PathBuf::from(path),
-        None => {
-            let here = env::var_os("CARGO_MANIFEST_DIR").expect("cargo names the crate's folder");
-            Path::new(&here).join("../../target/staticlib/libreplayframes.a")
-        }
+        None => folder("CARGO_MANIFEST_DIR").join(format!("../../target/staticlib/lib{name}.a")),
     }
 }
 
-fn main() {
-    let archive = archive();
-    println!("cargo:rerun-if-env-changed=REPLAYFRAMES_ARCHIVE");
+/// Links an archive: a copy of it, so that none is taken from the folder of another.
+fn link(name: &str, out: &Path) {
+    let variable = format!("{}_ARCHIVE", name.to_uppercase());
+    let archive = archive(name, &variable);
+    println!("cargo:rerun-if-env-changed={variable}");
     println!("cargo:rerun-if-changed={}", archive.display());
     if !archive.is_file() {
         eprintln!("there is no {}", archive.display());
-        eprintln!("run `rt staticlib replayframes` in the repository first, or name the archive in REPLAYFRAMES_ARCHIVE");
+        eprintln!("run `rt staticlib {name}` in the repository first, or name the archive in {variable}");
         std::process::exit(1);
     }
-    let folder = archive.parent().expect("a file stands in a folder");
-    println!("cargo:rustc-link-search=native={}", folder.display());
-    println!("cargo:rustc-link-lib=static=replayframes");
+    fs::copy(&archive, out.join(format!("lib{name}.a"))).expect("a copy of the archive");
+    println!("cargo:rustc-link-lib=static={name}");
+}
+
+fn main() {
+    let out = folder("OUT_DIR");
+    println!("cargo:rustc-link-search=native={}", out.display());
+    for name in ARCHIVES {
+        link(name, &out);
+    }
 }

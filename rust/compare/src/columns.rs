@@ -14,9 +14,15 @@ pub trait Column {
     fn count_free(&self) -> usize;
 }
 
-/// Runs and ranges.
+/// Runs.
 pub trait Runs: Column {
     fn alloc_contiguous(&mut self, size: usize, align_log2: usize) -> Option<usize>;
+    /// Gives back frames that were taken.
+    fn give_back(&mut self, from: usize, to: usize);
+}
+
+/// Ranges, whatever their frames were.
+pub trait Ranges: Column {
     fn insert(&mut self, from: usize, to: usize);
     fn remove(&mut self, from: usize, to: usize);
 }
@@ -59,6 +65,13 @@ impl Runs for Ours {
         ours::alloc_contiguous(&mut self.0, size, align_log2).ok()
     }
     #[inline]
+    fn give_back(&mut self, from: usize, to: usize) {
+        self.insert(from, to);
+    }
+}
+
+impl Ranges for Ours {
+    #[inline]
     fn insert(&mut self, from: usize, to: usize) {
         ours::insert(&mut self.0, from, to).expect("a range of the tree");
     }
@@ -98,6 +111,13 @@ impl Runs for Rival {
     fn alloc_contiguous(&mut self, size: usize, align_log2: usize) -> Option<usize> {
         Rival::alloc_contiguous(self, size, align_log2)
     }
+    #[inline]
+    fn give_back(&mut self, from: usize, to: usize) {
+        Ranges::insert(self, from, to);
+    }
+}
+
+impl Ranges for Rival {
     #[inline]
     fn insert(&mut self, from: usize, to: usize) {
         assert!(Rival::insert(self, from, to), "a range of the tree");
@@ -157,6 +177,13 @@ impl<T: Leaves> Runs for Box<T> {
     fn alloc_contiguous(&mut self, size: usize, align_log2: usize) -> Option<usize> {
         T::alloc_contiguous(self, size, align_log2)
     }
+    #[inline]
+    fn give_back(&mut self, from: usize, to: usize) {
+        Ranges::insert(self, from, to);
+    }
+}
+
+impl<T: Leaves> Ranges for Box<T> {
     #[inline(never)]
     fn insert(&mut self, from: usize, to: usize) {
         T::insert(self, from..to);

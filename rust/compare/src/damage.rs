@@ -1,13 +1,12 @@
 //! Memory that holds anything: ours alone, against a plain reading of the words. What each success says
 //! of the frames holds for any words; what is exact holds where the summaries agree.
+use crate::lent::Lent;
 use crate::model::Model;
 use crate::report::{grouped, Progress};
 use crate::request::{Answer, Reason, Request};
 use crate::rng::Rng;
 use crate::{ours, random, tree};
 
-/// How many words stand on both sides of the lent memory, and must not change.
-const GUARD: usize = 8;
 /// How many requests each memory is asked.
 const REQUESTS: usize = 24;
 /// Numbers of words that are no full tree, and how many frames requests to them are made for.
@@ -87,48 +86,8 @@ pub fn sizes() -> Result<String, String> {
     Ok(format!("{} numbers of frames", grouped(count)))
 }
 
-/// Words with something on both sides.
-struct Lent {
-    memory: Vec<u16>,
-    guards: Vec<u16>,
-}
-
-impl Lent {
-    fn new(words: &[u16], rng: &mut Rng) -> Lent {
-        let guards: Vec<u16> = (0..2 * GUARD).map(|_| rng.bits() as u16).collect();
-        Lent { memory: [&guards[..GUARD], words, &guards[GUARD..]].concat(), guards }
-    }
-
-    fn words(&self) -> &[u16] {
-        &self.memory[GUARD..self.memory.len() - GUARD]
-    }
-
-    fn words_mut(&mut self) -> &mut [u16] {
-        let end = self.memory.len() - GUARD;
-        &mut self.memory[GUARD..end]
-    }
-
-    /// What stands around the words is as it was.
-    fn is_kept_around(&self) -> Result<(), String> {
-        let (before, after) = (&self.memory[..GUARD], &self.memory[self.memory.len() - GUARD..]);
-        if [before, after].concat() == self.guards {
-            return Ok(());
-        }
-        Err("memory was changed that was not lent".to_string())
-    }
-
-    /// The words are these, and what stands around them is as it was.
-    fn same_as(&self, words: &[u16]) -> Result<(), String> {
-        self.is_kept_around()?;
-        match (0..words.len()).find(|&p| self.words()[p] != words[p]) {
-            None => Ok(()),
-            Some(p) => Err(format!("word {p} changed")),
-        }
-    }
-}
-
 /// Words of a full tree: any at all, mostly alike, or a sound tree, with a few bits turned or with none.
-fn damaged(rng: &mut Rng, words: usize) -> Vec<u16> {
+pub fn damaged(rng: &mut Rng, words: usize) -> Vec<u16> {
     let kind = rng.below(4);
     let some = rng.pick(&[0, 0xffff, 1, 0x8000]);
     let mut memory: Vec<u16> = match kind {
@@ -154,7 +113,7 @@ fn sound(rng: &mut Rng, words: usize) -> Vec<u16> {
 }
 
 /// One request: the answer, the words and the frames after it are as the words before it allow.
-fn step(memory: &mut Lent, request: Request) -> Result<Answer, String> {
+fn step(memory: &mut Lent<u16>, request: Request) -> Result<Answer, String> {
     let before = memory.words().to_vec();
     let mut model = Model { free: tree::free_frames(&before) };
     looks(&before, &model.free)?;
@@ -216,7 +175,7 @@ pub fn looks(words: &[u16], free: &[bool]) -> Result<(), String> {
 }
 
 /// `reset` makes every word 0, whatever stood there.
-fn wipe(memory: &mut Lent) -> Result<(), String> {
+fn wipe(memory: &mut Lent<u16>) -> Result<(), String> {
     ours::reset(memory.words_mut()).map_err(|reason| format!("{reason:?}"))?;
     memory.same_as(&vec![0; memory.words().len()])
 }

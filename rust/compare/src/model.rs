@@ -30,7 +30,7 @@ impl Model {
             Request::Next(k) if k >= self.free.len() => Answer::Refused(Reason::Outside),
             Request::Next(k) => self.next(k).into(),
             Request::Run { size: 0, .. } => Answer::Refused(Reason::Empty),
-            Request::Run { size, align_log2 } => self.run(size, align_log2).into(),
+            Request::Run { size, align_log2 } => self.run(size, align_log2).ok_or(Reason::NoRoom).into(),
             Request::Dealloc(k) => self.dealloc(k).into(),
             Request::Insert(from, to) | Request::Remove(from, to) => self.range(from, to).into(),
         }
@@ -42,17 +42,9 @@ impl Model {
         found.map(|away| k + away).ok_or(Reason::NoRoom)
     }
 
-    /// The lowest run of free frames. After a taken frame it goes on at the next multiple.
-    fn run(&self, size: usize, align_log2: usize) -> Result<usize, Reason> {
-        let mut base = 0;
-        for (k, &free) in self.free.iter().enumerate() {
-            if !free {
-                base = multiple_above(k, align_log2).ok_or(Reason::NoRoom)?;
-            } else if base <= k && k - base + 1 == size {
-                return Ok(base);
-            }
-        }
-        Err(Reason::NoRoom)
+    /// The lowest run of free frames.
+    fn run(&self, size: usize, align_log2: usize) -> Option<usize> {
+        lowest_run(self.free.iter().copied(), size, align_log2)
     }
 
     /// Whether frame k can be freed.
@@ -78,6 +70,19 @@ impl Model {
     }
 }
 
+/// The lowest run of frames that are free. After one that is not it goes on at the next multiple.
+pub fn lowest_run(free: impl Iterator<Item = bool>, size: usize, align_log2: usize) -> Option<usize> {
+    let mut base = 0;
+    for (k, free) in free.enumerate() {
+        if !free {
+            base = multiple_above(k, align_log2)?;
+        } else if base <= k && k - base + 1 == size {
+            return Some(base);
+        }
+    }
+    None
+}
+
 /// The lowest multiple of 2 to the power of `align_log2` above k, if 64 bits hold it.
 fn multiple_above(k: usize, align_log2: usize) -> Option<usize> {
     if align_log2 >= 64 {
@@ -100,8 +105,7 @@ pub fn compare_with_definition() -> Result<String, String> {
         let model = Model { free: (0..9).map(|k| state >> k & 1 == 1).collect() };
         for size in 1..=10 {
             for align_log2 in (0..6).chain([60, 63, 64, 1000]) {
-                let (way, rule) =
-                    (model.run(size, align_log2).ok(), defined_run(&model.free, size, align_log2));
+                let (way, rule) = (model.run(size, align_log2), defined_run(&model.free, size, align_log2));
                 if way != rule {
                     return Err(format!("{size} at {align_log2} of {state:#b}: {way:?}, not {rule:?}"));
                 }

@@ -1,5 +1,9 @@
-//! The proved library, through its exported functions. All that is unsafe in this workspace is here.
+//! The proved bitmap, through its exported functions. All that is unsafe in this workspace is here and in
+//! the two modules beneath, which are the shared allocator without and with contents.
 use crate::request::{Answer, Reason, Request};
+
+pub mod allocator;
+pub mod frames;
 
 extern "C" {
     fn rf_bitmap_words_for(frames: usize, words: *mut usize) -> u32;
@@ -37,6 +41,19 @@ fn reason(code: u32) -> Reason {
         6 => Reason::NoRoom,
         7 => Reason::NotTaken,
         8 => Reason::Corrupt,
+        9 => Reason::Unmatched,
+        10 => Reason::BadBase,
+        11 => Reason::NoClient,
+        12 => Reason::Below,
+        13 => Reason::NotAtFrame,
+        14 => Reason::NotYours,
+        15 => Reason::TooMany,
+        16 => Reason::TooHigh,
+        17 => Reason::Taken,
+        18 => Reason::Wrong,
+        19 => Reason::Unbacked,
+        20 => Reason::Beyond,
+        21 => Reason::Dirty,
         _ => panic!("the code {code} has no meaning"),
     }
 }

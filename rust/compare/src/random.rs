@@ -69,7 +69,7 @@ pub fn request(rng: &mut Rng, cap: usize) -> Request {
 }
 
 /// A frame's number: anywhere, low, or at and beyond the end.
-fn frame(rng: &mut Rng, cap: usize) -> usize {
+pub fn frame(rng: &mut Rng, cap: usize) -> usize {
     match rng.below(16) {
         0 => rng.pick(&[0, cap - 1, cap, cap + 1, cap + 65536, usize::MAX]),
         1..=7 => rng.small_below(cap),
@@ -78,7 +78,7 @@ fn frame(rng: &mut Rng, cap: usize) -> usize {
 }
 
 /// A run's size: small ones and powers of two as often as any.
-fn size(rng: &mut Rng, cap: usize) -> usize {
+pub fn size(rng: &mut Rng, cap: usize) -> usize {
     match rng.below(16) {
         0 => rng.pick(&[0, cap, cap + 1, usize::MAX]),
         1..=4 => 1 << rng.below(cap.trailing_zeros() as usize + 1),
@@ -87,7 +87,7 @@ fn size(rng: &mut Rng, cap: usize) -> usize {
 }
 
 /// An alignment: each up to two beyond the capacity, and some far beyond.
-fn align_log2(rng: &mut Rng, cap: usize) -> usize {
+pub fn align_log2(rng: &mut Rng, cap: usize) -> usize {
     let beyond = cap.trailing_zeros() as usize + 3;
     match rng.below(16) {
         0 => rng.pick(&[60, 63, 64, 1000, usize::MAX]),
@@ -97,7 +97,7 @@ fn align_log2(rng: &mut Rng, cap: usize) -> usize {
 }
 
 /// A range: mostly one that exists, short ones as often as long ones.
-fn range(rng: &mut Rng, cap: usize) -> (usize, usize) {
+pub fn range(rng: &mut Rng, cap: usize) -> (usize, usize) {
     let (from, length) = (rng.below(cap), rng.small_below(cap));
     match rng.below(16) {
         0 => rng.pick(&[

@@ -22,6 +22,19 @@ pub enum Reason {
     NoRoom = 6,
     NotTaken = 7,
     Corrupt = 8,
+    Unmatched = 9,
+    BadBase = 10,
+    NoClient = 11,
+    Below = 12,
+    NotAtFrame = 13,
+    NotYours = 14,
+    TooMany = 15,
+    TooHigh = 16,
+    Taken = 17,
+    Wrong = 18,
+    Unbacked = 19,
+    Beyond = 20,
+    Dirty = 21,
 }
 
 /// An answer.

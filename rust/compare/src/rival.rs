@@ -29,6 +29,12 @@ impl Rival {
     /// Takes the lowest free frame.
     #[inline(never)]
     pub fn alloc(&mut self) -> Option<usize> {
+        self.take_lowest()
+    }
+
+    /// The same, for a caller that is one call itself.
+    #[inline(always)]
+    pub fn take_lowest(&mut self) -> Option<usize> {
         let words = &mut self.words[..];
         let (mut node, mut word) = (0, words[0]);
         if word == 0 {
@@ -63,6 +69,12 @@ impl Rival {
     /// Frees frame k; false if it is free or there is none.
     #[inline(never)]
     pub fn dealloc(&mut self, k: usize) -> bool {
+        self.set_free(k)
+    }
+
+    /// The same, for a caller that is one call itself.
+    #[inline(always)]
+    pub fn set_free(&mut self, k: usize) -> bool {
         if k >= self.cap() {
             return false;
         }

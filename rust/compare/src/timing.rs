@@ -7,7 +7,8 @@ use crate::work::{Digest, Work};
 use std::rc::Rc;
 use std::time::Instant;
 
-const ROUNDS: usize = 9;
+/// How often each column is timed.
+pub const ROUNDS: usize = 9;
 /// How many operations upstream does at 16 million frames, a size that it does not have itself.
 const UPSTREAM_AT_16M: usize = 20_000;
 /// What ours may take of the rival's time.
@@ -17,17 +18,17 @@ const ALLOWED: f64 = 1.25;
 pub type State = Rc<Vec<u16>>;
 
 /// One timed run.
-struct Measured {
-    nanoseconds: f64,
+pub struct Measured {
+    pub nanoseconds: f64,
     digest: Digest,
     free: usize,
 }
 
 /// Runs a row's work on one column, at most so many operations of it.
-type Timer = Box<dyn FnMut(usize) -> Measured>;
+pub type Timer = Box<dyn FnMut(usize) -> Measured>;
 
 /// Times work on a column, which begins in this state each time.
-fn timer<C: Column + 'static, W: Work<C> + 'static>(mut column: C, state: &State, work: &Rc<W>) -> Timer {
+pub fn timer<C: Column + 'static, W: Work<C> + 'static>(mut column: C, state: &State, work: &Rc<W>) -> Timer {
     let (state, work) = (Rc::clone(state), Rc::clone(work));
     Box::new(move |limit| {
         column.load(&state);
@@ -115,7 +116,7 @@ impl Row {
 }
 
 /// Breaks off if a column answers otherwise than another.
-fn same(row: &str, column: &str, is: &Measured, should: &Measured) {
+pub fn same(row: &str, column: &str, is: &Measured, should: &Measured) {
     assert_eq!(is.digest, should.digest, "{row}: {column} gives other answers");
     assert_eq!(is.free, should.free, "{row}: {column} leaves another number of frames free");
 }

@@ -1,5 +1,5 @@
 //! What the benchmark's rows do, for any column that can.
-use crate::columns::{Column, Looks, Runs};
+use crate::columns::{Column, Looks, Ranges, Runs};
 use crate::rng::Rng;
 
 /// Answers, folded into one number that depends on their order.
@@ -97,7 +97,7 @@ pub struct Whole {
     pub times: usize,
 }
 
-impl<C: Runs> Work<C> for Whole {
+impl<C: Ranges> Work<C> for Whole {
     fn run(&self, column: &mut C, limit: usize, _: &mut Digest) -> usize {
         let times = self.times.min(limit);
         for _ in 0..times {
@@ -125,7 +125,7 @@ impl<C: Runs> Work<C> for Once {
             let base = column.alloc_contiguous(self.size, self.align_log2);
             digest.add(base);
             if let Some(base) = base {
-                column.insert(base, base + self.size);
+                column.give_back(base, base + self.size);
             }
         }
         times
@@ -149,7 +149,7 @@ impl<C: Runs> Work<C> for UntilNone {
                 bases.push(base);
             }
             for base in bases.drain(..) {
-                column.insert(base, base + self.size);
+                column.give_back(base, base + self.size);
             }
         }
         times

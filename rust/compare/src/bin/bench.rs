@@ -1,4 +1,5 @@
-//! Times ours, upstream, the rival and the stack on the same requests, and prints a table.
+//! Times ours, upstream, the rival and the stack on the same requests, and prints a table; then the shared
+//! allocator beside the bitmap alone, and its contents beside plain writes.
 //!
 //!     bench                     every row
 //!     bench --rows SUBSTRING    the rows whose name has it
@@ -6,24 +7,17 @@
 //! All columns must give the same answers and leave as many frames free; the stack, which has no order,
 //! only the latter. Upstream ends at a million frames: at 16 million it is its own type once more around
 //! its largest, and does 20,000 operations.
-use compare::columns::Column;
-use compare::rival::Rival;
-use compare::rng::Rng;
-use compare::timing::{Bench, State};
-use compare::tree;
-use compare::work::{AllocAll, Check, Count, FreeAll, Mixed, Once, UntilNone, Whole};
+use compare::shared::rows;
+use compare::states::{holes, mixed, state, taken, HOLES};
+use compare::timing::Bench;
+use compare::work::{AllocAll, Check, Count, FreeAll, Once, UntilNone, Whole};
 use std::process::exit;
-use std::rc::Rc;
 use std::thread;
 
 /// Upstream's bitmaps are values, and go over the stack whole.
 const STACK: usize = 256 << 20;
 /// The depths of trees, what their sizes are called, and how often all frames are freed and taken.
 const SIZES: [(u32, &str, usize); 3] = [(4, "64K", 1000), (5, "1M", 100), (6, "16M", 10)];
-/// How many pairs a mix of allocating and freeing has.
-const PAIRS: usize = 50_000;
-/// How many frames are taken where runs are sought between holes.
-const HOLES: usize = 200;
 
 fn main() {
     let words: Vec<String> = std::env::args().skip(1).collect();
@@ -74,6 +68,8 @@ fn run(part: &str) {
     bench.looks("check, 1M", 5, || taken(5, 50), Check(20));
     bench.looks("count_free, 1M", 5, || taken(5, 50), Count(20));
     bench.end();
+    rows::layers(part);
+    rows::contents(part);
 }
 
 /// Every frame is taken, and every frame is freed.
@@ -118,32 +114,4 @@ fn no_runs(bench: &mut Bench) {
     bench.runs("none: 512 at 1, 64K with every other taken", 4, every_other, none(512, 0));
     bench.runs("none: 512 at 1, 64K with the last of each 512 taken", 4, last_of_512, none(512, 0));
     bench.runs("none: 512 at 512, 64K with the last of each 512 taken", 4, last_of_512, none(512, 9));
-}
-
-/// The state in which these frames are free.
-fn state(depth: u32, is_free: impl FnMut(usize) -> bool) -> State {
-    let free: Vec<bool> = (0..16_usize.pow(depth)).map(is_free).collect();
-    let mut words = vec![0; (free.len() - 1) / 15];
-    tree::renew(&mut words, &free, 0, free.len());
-    Rc::new(words)
-}
-
-/// The state in which so many of a hundred frames are taken, at random.
-fn taken(depth: u32, percent: usize) -> State {
-    let mut rng = Rng::new(5);
-    state(depth, |_| rng.below(100) >= percent)
-}
-
-/// The state of 65536 frames with some holes.
-fn holes() -> State {
-    let mut rng = Rng::new(7);
-    let holes: Vec<usize> = (0..HOLES).map(|_| rng.below(1 << 16)).collect();
-    state(4, |k| !holes.contains(&k))
-}
-
-/// A mix of allocating and freeing that begins in this state.
-fn mixed(depth: u32, state: &State) -> Mixed {
-    let mut lowest = Rival::new(depth);
-    lowest.load(state);
-    Mixed::new(&tree::free_frames(state), PAIRS, lowest)
 }

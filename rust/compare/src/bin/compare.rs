@@ -1,4 +1,4 @@
-//! Compares ours with upstream and with a plain array: every answer, and every frame after each step.
+//! Compares ours with upstream and with plain models: every answer, and every frame after each step.
 //!
 //!     compare quick    a part of each comparison, in about a minute
 //!     compare all      the whole
@@ -7,7 +7,7 @@
 use compare::random::Extent;
 use compare::report::Report;
 use compare::upstream::{BitAlloc16, BitAlloc1M, BitAlloc256, BitAlloc4K, BitAlloc64K, Leaves};
-use compare::{damage, findings, model, random, sequences};
+use compare::{damage, findings, model, random, sequences, shared};
 use std::process::exit;
 use std::thread;
 
@@ -20,14 +20,36 @@ struct Plan {
     sequences: [usize; 6],
     /// Damaged memories of 1, 17, 273 and 4369 words.
     memories: [usize; 4],
+    /// The shared allocator: sequences of 300 requests at 16, 256, 4096, 65536 and 1048576 frames.
+    shared: [usize; 5],
+    /// The same with contents: at 16, 256 and 4096 frames, and of 100 requests at 65536.
+    contents: [usize; 4],
+    /// Allocators that are exhausted and released, at the sizes of `shared` and of `contents`.
+    special: ([usize; 5], [usize; 4]),
+    /// Damaged allocators of 1, 17 and 273 words, without and with contents.
+    allocators: ([usize; 3], [usize; 3]),
 }
 
-const QUICK: Plan =
-    Plan { sequences: [30_000, 30_000, 1_000, 100, 20, 3], memories: [50_000, 20_000, 2_000, 100] };
+const QUICK: Plan = Plan {
+    sequences: [30_000, 30_000, 1_000, 100, 20, 3],
+    memories: [50_000, 20_000, 2_000, 100],
+    shared: [10_000, 3_000, 200, 20, 4],
+    contents: [3_000, 100, 4, 0],
+    special: ([2_000, 200, 20, 5, 2], [500, 20, 4, 0]),
+    allocators: ([50_000, 10_000, 500], [5_000, 200, 5]),
+};
 const ALL: Plan = Plan {
     sequences: [100_000, 100_000, 20_000, 2_000, 400, 100],
     memories: [1_000_000, 500_000, 50_000, 2_000],
+    shared: [100_000, 50_000, 4_000, 400, 60],
+    contents: [50_000, 2_000, 40, 4],
+    special: ([20_000, 2_000, 200, 50, 8], [5_000, 200, 20, 2]),
+    allocators: ([500_000, 100_000, 5_000], [50_000, 1_000, 30]),
 };
+/// How many frames the shared allocators of a plan have.
+const SHARED: [usize; 5] = [16, 256, 4096, 65536, 1 << 20];
+/// A base near the end of all addresses: nine frames have a place.
+const NEAR_THE_END: usize = 0_usize.wrapping_sub(10 * 4096);
 
 fn main() {
     let words: Vec<String> = std::env::args().skip(1).collect();
@@ -69,7 +91,70 @@ fn run(plan: &Plan) -> bool {
     for (words, memories) in [1, 17, 273, 4369].into_iter().zip(plan.memories) {
         report.run(&format!("damaged memory of {words} words"), || damage::run(words, memories));
     }
+    shared_allocator(&mut report, plan);
+    shared_contents(&mut report, plan);
     report.end()
+}
+
+/// The shared allocator beside the plain model.
+fn shared_allocator(report: &mut Report, plan: &Plan) {
+    report.run("shared, addresses of frames", shared::sizes::addresses);
+    report.run("shared, lengths that do not go together", || shared::sizes::lengths(false));
+    report.run("shared, sequences at 16", || shared::sequences::all(1 << 20, 16));
+    report.run("shared, sequences at 16 of which 9 have a place", || shared::sequences::all(NEAR_THE_END, 9));
+    for (frames, sequences) in SHARED.into_iter().zip(plan.shared) {
+        let look_every = if frames <= 4096 { 50 } else { 100 };
+        shared_random(report, Extent { frames, sequences, length: 300, look_every }, false);
+    }
+    special(report, &plan.special.0, false);
+    for (words, memories) in [1, 17, 273].into_iter().zip(plan.allocators.0) {
+        let name = format!("shared, damaged memory of {words} words");
+        report.run(&name, || shared::damage::run(words, false, memories));
+    }
+}
+
+/// The shared allocator with contents beside the plain model.
+fn shared_contents(report: &mut Report, plan: &Plan) {
+    report.run("contents, lengths that do not go together", || shared::sizes::lengths(true));
+    for (frames, sequences) in SHARED.into_iter().zip(plan.contents) {
+        let (length, look_every) = if frames <= 4096 { (300, 50) } else { (100, 25) };
+        if sequences > 0 {
+            shared_random(report, Extent { frames, sequences, length, look_every }, true);
+        }
+    }
+    special(report, &plan.special.1, true);
+    for (words, memories) in [1, 17, 273].into_iter().zip(plan.allocators.1) {
+        let name = format!("contents, damaged memory of {words} words");
+        report.run(&name, || shared::damage::run(words, true, memories));
+    }
+}
+
+/// What the lines of the shared allocator begin with.
+fn kind(contents: bool) -> &'static str {
+    if contents {
+        "contents"
+    } else {
+        "shared"
+    }
+}
+
+/// Random sequences of the shared allocator.
+fn shared_random(report: &mut Report, extent: Extent, contents: bool) {
+    let name = format!("{}, random sequences at {}", kind(contents), extent.frames);
+    report.run(&name, || shared::random::run(extent, contents));
+}
+
+/// Exhaustion and release at each size of a plan.
+fn special(report: &mut Report, plan: &[usize], contents: bool) {
+    for (frames, &times) in SHARED.into_iter().zip(plan).filter(|(_, &times)| times > 0) {
+        let kind = kind(contents);
+        report.run(&format!("{kind}, none left at {frames}"), || {
+            shared::special::exhaustion(frames, contents, times)
+        });
+        report.run(&format!("{kind}, all of a client given back at {frames}"), || {
+            shared::special::releases(frames, contents, times)
+        });
+    }
 }
 
 /// Random sequences at a capacity that upstream has.
