@@ -24,3 +24,8 @@ not-refused false e s = absurd (true≢false e)
 pub refused : {P : Type 0} (b : Bool) → not b ≡ true → Says b P → P → ⊥
 refused false e s = s
 refused true e s = absurd (true≢false (sym e))
+
+-- an answer about P is one about Q, where the two are the same
+pub says-same : {P Q : Type 0} (b : Bool) → (P → Q) → (Q → P) → Says b P → Says b Q
+says-same true to back s = to s
+says-same false to back s = λ q. s (back q)

@@ -1,9 +1,9 @@
 -- The laws of the two searches: each statement determines its answer. Assumes nothing.
-use mathlib.Core.Path.{_≡_}
+use mathlib.Core.Path.{_≡_, sym}
 use Prim.Native.Nat.{ℕ, zero, suc, _+_, _-_, _≤_, _<_}
 use native.Mathlib.Decide.{decLt, ℕ-discrete}
 use native.Mathlib.Omega.{arith}
-use Rattle.base.specs.Search.{Stops, Since}
+use Rattle.base.specs.Search.{Stops, Since, Everywhere, First}
 
 -- ---- upwards
 
@@ -19,19 +19,21 @@ stops-once {r = r} {s = s} x y = go (decLt r s) (decLt s r)
     go (no g) (yes l) = absurd (no-sooner y x l)
     go (no g) (no h) = omega arith
 
+-- one number further up
+pub below-more : {P : ℕ → Type 0} (a n : ℕ) → ((k : ℕ) → a ≤ k → k < n → P k) → P n → (k : ℕ) → a ≤ k → k < n + 1 → P k
+below-more {P} a n below here k l h = go (ℕ-discrete k n)
+  where
+    go : Dec (k ≡ n) → P k
+    go (yes q) = rw q here
+    go (no d) = below k l (omega (arith, d))
+
 -- a search that has passed no number
 pub stops-none : {P : ℕ → Type 0} (a : ℕ) → Stops P a a a
 stops-none a = record { low = omega arith; high = omega arith; before = λ k l h. absurd (omega arith); fails = λ l. absurd (omega arith) }
 
 -- a search that has passed all numbers up to k passes k as well
 pub stops-more : {P : ℕ → Type 0} {a k : ℕ} → Stops P a k k → P k → Stops P a (k + 1) (k + 1)
-stops-more {P} {a} {k} s p =
-    let low = s .low in
-    record { low = omega arith; high = omega arith; before = λ m l h. at m l (ℕ-discrete m k) h; fails = λ l. absurd (omega arith) }
-  where
-    at : (m : ℕ) → a ≤ m → Dec (m ≡ k) → m < k + 1 → P m
-    at m l (yes e) h = rw e p
-    at m l (no d) h = s .before m l (omega (arith, d))
+stops-more {P} {a} {k} s p = let low = s .low in record { low = omega arith; high = omega arith; before = below-more a k (s .before) p; fails = λ l. absurd (omega arith) }
 
 -- a search that has passed all numbers up to k ends there
 pub stops-at : {P : ℕ → Type 0} {a k : ℕ} (b : ℕ) → Stops P a k k → k ≤ b → (k < b → P k → ⊥) → Stops P a b k
@@ -72,3 +74,40 @@ some-fails P test (suc n) not = go (test n) (some-fails P test n)
         at : (i : ℕ) → i < suc n → ((i : ℕ) → i < n → P i) → Dec (i ≡ n) → P i
         at i l all (yes e) = rw e p
         at i l all (no d) = all i (omega (arith, d))
+
+-- ---- by rows
+
+-- no place is first where P holds everywhere
+pub none-first : {P : ℕ → ℕ → Type 0} {width : ℕ → ℕ} {n a b : ℕ} → First P width n a b → Everywhere P width n → ⊥
+none-first {a = a} {b = b} f all = f .fails (all a b (f .row) (f .place))
+
+-- two first places: neither is before the other
+no-earlier-row : {P : ℕ → ℕ → Type 0} {width : ℕ → ℕ} {n a b a′ b′ : ℕ} → First P width n a b → First P width n a′ b′ → a < a′ → ⊥
+no-earlier-row {a = a} {b = b} f g l = f .fails (g .rows-before a b l (f .place))
+
+pub first-row-once : {P : ℕ → ℕ → Type 0} {width : ℕ → ℕ} {n a b a′ b′ : ℕ} → First P width n a b → First P width n a′ b′ → a ≡ a′
+first-row-once {a = a} {a′ = a′} f g = go (decLt a a′) (decLt a′ a)
+  where
+    go : Dec (a < a′) → Dec (a′ < a) → a ≡ a′
+    go (yes l) d = absurd (no-earlier-row f g l)
+    go (no x) (yes l) = absurd (no-earlier-row g f l)
+    go (no x) (no y) = omega arith
+
+pub first-once : {P : ℕ → ℕ → Type 0} {width : ℕ → ℕ} {n a b a′ b′ : ℕ} → First P width n a b → First P width n a′ b′ → b ≡ b′
+first-once {P} {a = a} {b} {a′} {b′} f g = go (decLt b b′) (decLt b′ b)
+  where
+    e : a ≡ a′
+    e = first-row-once f g
+
+    go : Dec (b < b′) → Dec (b′ < b) → b ≡ b′
+    go (yes l) d = absurd (f .fails (rw e (g .before b l)))
+    go (no x) (yes l) = absurd (g .fails (rw (sym e) (f .before b′ l)))
+    go (no x) (no y) = omega arith
+
+-- a row that passes, after rows that pass
+pub row-more : {P : ℕ → ℕ → Type 0} {width : ℕ → ℕ} {m : ℕ} → Everywhere P width m → ((b : ℕ) → b < width m → P m b) → Everywhere P width (m + 1)
+row-more {P} {width} {m} above here a b l h = go (ℕ-discrete a m)
+  where
+    go : Dec (a ≡ m) → P a b
+    go (yes q) = rw q (here b (rw q at h))
+    go (no d) = above a b (omega (arith, d)) h

@@ -1,5 +1,8 @@
--- Ranges of numbers, and counts over them. Assumes nothing.
+-- Ranges of numbers, counts over them, and lists that differ in a range alone. Assumes nothing.
+use mathlib.Core.Path.{_≡_}
+use mathlib.Core.List.{List}
 use Prim.Native.Nat.{ℕ, zero, suc, _+_, _≤_, _<_}
+use lib.ListN.{length, getD}
 
 -- k is none of the numbers from a up to b
 abbrev pub Outside : ℕ → ℕ → ℕ → Type 0
@@ -9,3 +12,8 @@ Outside a b k = a ≤ k → k < b → ⊥
 unfoldable pub howMany : (ℕ → ℕ) → ℕ → ℕ
 howMany f zero = 0
 howMany f (suc n) = howMany f n + f n
+
+-- t′ differs from t at none but the numbers from a up to b
+pub record Only (t : List ℕ) (a b : ℕ) (t′ : List ℕ) : Type 0 where
+  pub long : length t′ ≡ length t
+  pub others : (k : ℕ) → Outside a b k → getD t′ k 0 ≡ getD t k 0

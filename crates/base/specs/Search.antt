@@ -14,3 +14,15 @@ pub record Since (P : ℕ → Type 0) (a b r : ℕ) : Type 0 where
   pub high : r ≤ b
   pub after : (k : ℕ) → r ≤ k → k < b → P k
   pub fails : a < r → P (r - 1) → ⊥
+
+-- P holds at every place (a, b), a below n and b below the width of a
+abbrev pub Everywhere : (ℕ → ℕ → Type 0) → (ℕ → ℕ) → ℕ → Type 0
+Everywhere P width n = (a b : ℕ) → a < n → b < width a → P a b
+
+-- (a, b) is the first such place at which P fails, by a and then by b
+pub record First (P : ℕ → ℕ → Type 0) (width : ℕ → ℕ) (n a b : ℕ) : Type 0 where
+  pub row : a < n
+  pub place : b < width a
+  pub fails : P a b → ⊥
+  pub rows-before : Everywhere P width a
+  pub before : (k : ℕ) → k < b → P a k

@@ -1,2 +1,3 @@
 -- What the contracts of the exported functions cite.
 pub mod Bitmap
+pub mod Configuration

@@ -1,0 +1,28 @@
+-- `config_bytes::u32_at` meets its contract. Assumes nothing.
+use borrow.Author.Needs.{needs}
+use Rattle.config_bytes.proofs.u32_at.Statement.{statement}
+use Rattle.config_bytes.proofs.u32_at.Tie as tie
+use Rattle.config_bytes.specs.Fields.{le32}
+
+u16-at-requires : tie.Need-u16-at-requires
+u16-at-requires c κs = search needs
+
+add-u16-at : tie.Need-add-u16-at
+add-u16-at c = search needs
+
+u16-at-requires-2 : tie.Need-u16-at-requires-2
+u16-at-requires-2 c κs = search needs
+
+mul-result : tie.Need-mul-result
+mul-result c = search needs
+
+add-result : tie.Need-add-result
+add-result c = search needs
+
+returns : tie.Need-returns
+unfolding le32
+returns c = search needs
+
+pub u32-at-spec : {M : Type 1} → statement M
+u32-at-spec =
+    tie.close (tie.spec u16-at-requires add-u16-at u16-at-requires-2 mul-result add-result returns)

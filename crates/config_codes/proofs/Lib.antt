@@ -1,0 +1,2 @@
+-- A law of four numbers.
+pub mod Laws

@@ -1,0 +1,2 @@
+-- What has been written of the bytes of a configuration.
+pub mod Encoding

@@ -1,0 +1,2 @@
+-- The laws of words in view.
+pub mod Laws

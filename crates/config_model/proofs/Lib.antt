@@ -1,0 +1,2 @@
+-- The laws of configurations.
+pub mod Laws

@@ -1,0 +1,3 @@
+-- A configuration, and what makes it right.
+pub mod Config
+pub mod Rules

@@ -1,0 +1,2 @@
+-- The laws of the rules on two regions.
+pub mod Laws

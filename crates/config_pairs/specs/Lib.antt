@@ -1,0 +1,2 @@
+-- What the rules on two regions ask.
+pub mod Pairs

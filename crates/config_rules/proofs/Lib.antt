@@ -1,0 +1,2 @@
+-- `Laws` has what the functions' proofs cite.
+pub mod Laws

@@ -1,0 +1,2 @@
+-- The laws of numbers.
+pub mod Laws

@@ -1,0 +1,2 @@
+-- What the rules on one region ask.
+pub mod Singles

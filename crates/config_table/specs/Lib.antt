@@ -1,0 +1,2 @@
+-- What the public contracts say.
+pub mod Holding

@@ -1,0 +1,3 @@
+-- The laws of views, and of going through a configuration machine by machine.
+pub mod Laws
+pub mod Rows

@@ -1,0 +1,2 @@
+-- What has been written of a table.
+pub mod Writing

@@ -1,0 +1,2 @@
+-- The laws of a region's words.
+pub mod Laws
