@@ -1,10 +1,13 @@
 //! The proved functions beside others: `ours` calls the proved archives, `upstream` the stripped original,
 //! `model` is a plain array of booleans, and `rival` the same tree written in Rust for speed; `shared` is
-//! the same for the shared allocator, whose frames have owners and contents.
+//! the same for the shared allocator, whose frames have owners and contents. `config_plain` is a
+//! plain checker of configurations, and `config_cases` compares ours with it.
 //!
 //! The programs are `compare` (every answer and every frame, and the findings), `sample` (a list of
-//! upstream's answers for a Rattle program to replay) and `bench` (speed).
+//! upstream's answers for a Rattle program to replay), `bench` (speed of the bitmap) and `config_speed` (of a check).
 pub mod columns;
+pub mod config_cases;
+pub mod config_plain;
 pub mod damage;
 pub mod findings;
 pub mod lent;

@@ -7,7 +7,7 @@
 use compare::random::Extent;
 use compare::report::Report;
 use compare::upstream::{BitAlloc16, BitAlloc1M, BitAlloc256, BitAlloc4K, BitAlloc64K, Leaves};
-use compare::{damage, findings, model, random, sequences, shared};
+use compare::{config_cases, damage, findings, model, random, sequences, shared};
 use std::process::exit;
 use std::thread;
 
@@ -28,6 +28,8 @@ struct Plan {
     special: ([usize; 5], [usize; 4]),
     /// Damaged allocators of 1, 17 and 273 words, without and with contents.
     allocators: ([usize; 3], [usize; 3]),
+    /// Random configurations.
+    configurations: usize,
 }
 
 const QUICK: Plan = Plan {
@@ -37,6 +39,7 @@ const QUICK: Plan = Plan {
     contents: [3_000, 100, 4, 0],
     special: ([2_000, 200, 20, 5, 2], [500, 20, 4, 0]),
     allocators: ([50_000, 10_000, 500], [5_000, 200, 5]),
+    configurations: 20_000,
 };
 const ALL: Plan = Plan {
     sequences: [100_000, 100_000, 20_000, 2_000, 400, 100],
@@ -45,6 +48,7 @@ const ALL: Plan = Plan {
     contents: [50_000, 2_000, 40, 4],
     special: ([20_000, 2_000, 200, 50, 8], [5_000, 200, 20, 2]),
     allocators: ([500_000, 100_000, 5_000], [50_000, 1_000, 30]),
+    configurations: 1_000_000,
 };
 /// How many frames the shared allocators of a plan have.
 const SHARED: [usize; 5] = [16, 256, 4096, 65536, 1 << 20];
@@ -93,6 +97,9 @@ fn run(plan: &Plan) -> bool {
     }
     shared_allocator(&mut report, plan);
     shared_contents(&mut report, plan);
+    report.run("the smallest configuration that breaks each rule", config_cases::smallest);
+    report.run("the truck's configuration, cut off and changed", config_cases::changed);
+    report.run("random configurations", || config_cases::random(plan.configurations));
     report.end()
 }
 
