@@ -12,7 +12,7 @@ from toolchain import run
 
 NEEDED = "the Debian packages cargo and rustc, version 1.63 or later"
 PROGRAMS = "rust/target/release"
-ARCHIVES = ["replayframes", "replayframes_allocator", "replayframes_frames"]
+ARCHIVES = ["replayframes", "replayframes_allocator", "replayframes_frames", "replayframes_config"]
 
 # The quick comparison takes about a minute; one that does not end is a failure.
 SECONDS = "600"

@@ -4,7 +4,8 @@ use std::fs;
 use std::path::{Path, PathBuf};
 
 /// The crates whose archives are linked.
-const ARCHIVES: [&str; 3] = ["replayframes", "replayframes_allocator", "replayframes_frames"];
+const ARCHIVES: [&str; 4] =
+    ["replayframes", "replayframes_allocator", "replayframes_frames", "replayframes_config"];
 
 /// A folder that cargo names.
 fn folder(variable: &str) -> PathBuf {

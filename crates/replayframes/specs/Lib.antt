@@ -1,3 +1,2 @@
 -- What the contracts of the exported functions cite.
 pub mod Bitmap
-pub mod Configuration

@@ -2,8 +2,6 @@
 // answers 0 or a reason, and writes its value through the last pointer, which a refusal leaves alone;
 // `rf_bitmap_check` writes the word that lies.
 // Nothing is demanded of the caller beyond the types.
-mod configuration;
-
 ghost use mathlib.Core.Path.{_≡_};
 ghost use Rattle.replayframes.specs.Bitmap.{rangeCode, WordsCode, CapCode, CountCode, AnyCode, TestCode, NextCode, CheckCode, ResetCode, AllocCode, RunCode, DeallocCode, InsertCode, RemoveCode};
 use bitmap_allocator::Allocated;

@@ -1,9 +1,9 @@
--- `replayframes::configuration::rf_config_check` meets its contract. Assumes nothing.
+-- `replayframes_config::rf_config_check` meets its contract. Assumes nothing.
 use borrow.Author.Needs.{needs}
-use Rattle.replayframes.proofs.configuration.rf_config_check.Statement.{statement}
-use Rattle.replayframes.proofs.configuration.rf_config_check.Tie as tie
+use Rattle.replayframes_config.proofs.rf_config_check.Statement.{statement}
+use Rattle.replayframes_config.proofs.rf_config_check.Tie as tie
 use mathlib.Core.Path.{sym, ap, _∙_}
-use Rattle.replayframes.specs.Configuration.{verdictCode, verdictNumbers}
+use Rattle.replayframes_config.specs.Configuration.{verdictCode, verdictNumbers}
 
 check-requires : tie.Need-check-requires
 check-requires c κs = search needs

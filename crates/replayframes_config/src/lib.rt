@@ -1,5 +1,7 @@
-// The functions of the configuration.
-ghost use Rattle.replayframes.specs.Configuration.{CheckCode, LoadCode};
+// The configuration's functions that programs in other languages link: numbers, and pointers with
+// lengths. Each answers 0 or a reason; config_codes has the numbers of the reasons and of their places.
+// Nothing is demanded of the caller beyond the types.
+ghost use Rattle.replayframes_config.specs.Configuration.{CheckCode, LoadCode};
 use config::Loaded;
 use config::Verdict;
 
