@@ -73,6 +73,14 @@ all-beyond t o n k l s e m p = go (decLt m (cap t))
     go (yes h) = s .before m p (omega arith)
     go (no g) = behind-reserved t o m l (omega (arith, g))
 
+-- a frame of which it can't be that it is not the client's is
+pub owned-surely : (t o : List ℕ) (k c : ℕ) → ((state t o k ≡ Owned c → ⊥) → ⊥) → state t o k ≡ Owned c
+owned-surely t o k c n = go (dec-owned t o k c)
+  where
+    go : Dec (state t o k ≡ Owned c) → state t o k ≡ Owned c
+    go (yes e) = e
+    go (no d) = absurd (n d)
+
 -- none of the frames that have no contents is the client's
 pub none-beyond : (t o : List ℕ) (c n k : ℕ) → length o ≡ cap t → Stops (λ m. state t o m ≡ Owned c → ⊥) n (cap t) k → k ≡ cap t → (m : ℕ) → n ≤ m → state t o m ≡ Owned c → ⊥
 none-beyond t o c n k l s e m p q = go (decLt m (cap t))

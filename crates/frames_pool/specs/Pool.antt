@@ -86,7 +86,7 @@ pub record Homeless (base : ℕ) (t o w : List ℕ) (c : ℕ) : Type 0 where
   pub known : Known base t o c
   pub frame : ℕ
   pub past : framesIn w ≤ frame
-  pub mine : (state t o frame ≡ Owned c → ⊥) → ⊥
+  pub mine : state t o frame ≡ Owned c
 
 abbrev pub ReleaseSays : ℕ → List ℕ → List ℕ → List ℕ → ℕ → List ℕ → List ℕ → List ℕ → Left → Type 0
 ReleaseSays base t o w c t′ o′ w′ Left.Done = Released base t o w c t′ o′ w′

@@ -8,7 +8,7 @@ use Rattle.base.proofs.Says.{told, refused, not-refused}
 use Rattle.contents.specs.Contents.{Backed}
 use Rattle.claims.specs.Fits.{FitSays}
 use Rattle.contents.proofs.Cleaning.{kept-all}
-use Rattle.frames_pool.proofs.Cleaning.{none-beyond, left-clean}
+use Rattle.frames_pool.proofs.Cleaning.{owned-surely, none-beyond, left-clean}
 
 is-backed-requires : tie.Need-is-backed-requires
 is-backed-requires c κs = search needs
@@ -68,7 +68,7 @@ same-length-11 : tie.Need-same-length-11
 same-length-11 c = refl
 
 returns-4 : tie.Need-returns-4
-returns-4 c = let bk : Backed (c .before .before .before .before .before .before .before .before .before .before .before .before .before .before .before .before .before .args .owners .now) (c .before .before .before .before .before .before .before .before .before .before .before .before .before .before .before .before .before .args .words .now) = not-refused (c .before .before .before .before .before .before .before .before .before .before .before .is-backed .result) (c .before .before .before .before .before .before .before .before .before .before .if1 .left) (c .before .before .before .before .before .before .before .before .before .before .before .is-backed .ensures) in let f = told (FitSays _ _ _) (c .before .before .before .before .before .enum-told .given .1) (c .before .before .before .before .before .before .before .fitting .ensures) in let m = f .matched .bytes in let x = c .before .others-until .ensures in let h = x .high in (kept-all _ _ _, record { backed = bk; known = record { fits = f; client = c .before .before .before .before .if2 .left }; frame = _; past = x .low; mine = x .fails (omega (arith, c .if3 .taken)) })
+returns-4 c = let bk : Backed (c .before .before .before .before .before .before .before .before .before .before .before .before .before .before .before .before .before .args .owners .now) (c .before .before .before .before .before .before .before .before .before .before .before .before .before .before .before .before .before .args .words .now) = not-refused (c .before .before .before .before .before .before .before .before .before .before .before .is-backed .result) (c .before .before .before .before .before .before .before .before .before .before .if1 .left) (c .before .before .before .before .before .before .before .before .before .before .before .is-backed .ensures) in let f = told (FitSays _ _ _) (c .before .before .before .before .before .enum-told .given .1) (c .before .before .before .before .before .before .before .fitting .ensures) in let m = f .matched .bytes in let x = c .before .others-until .ensures in let h = x .high in (kept-all _ _ _, record { backed = bk; known = record { fits = f; client = c .before .before .before .before .if2 .left }; frame = _; past = x .low; mine = owned-surely _ _ _ _ (x .fails (omega (arith, c .if3 .taken))) })
 
 wipe-owned-requires : tie.Need-wipe-owned-requires
 wipe-owned-requires c κs = let bk : Backed (c .before .before .before .before .before .before .before .before .before .before .before .before .before .before .before .before .before .before .before .before .args .owners .now) (c .before .before .before .before .before .before .before .before .before .before .before .before .before .before .before .before .before .before .before .before .args .words .now) = not-refused (c .before .before .before .before .before .before .before .before .before .before .before .before .before .before .is-backed .result) (c .before .before .before .before .before .before .before .before .before .before .before .before .before .if1 .left) (c .before .before .before .before .before .before .before .before .before .before .before .before .before .before .is-backed .ensures) in let f = told (FitSays _ _ _) (c .before .before .before .before .before .before .before .before .enum-told .given .1) (c .before .before .before .before .before .before .before .before .before .before .fitting .ensures) in (f .matched, bk, c .before .before .before .before .before .before .before .if2 .left)
