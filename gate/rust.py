@@ -12,7 +12,15 @@ from toolchain import run
 
 NEEDED = "the Debian packages cargo and rustc, version 1.63 or later"
 PROGRAMS = "rust/target/release"
-ARCHIVES = ["replayframes", "replayframes_allocator", "replayframes_frames", "replayframes_config"]
+ARCHIVES = [
+    "replayframes",
+    "replayframes_looks",
+    "replayframes_allocator",
+    "replayframes_frames",
+    "replayframes_config",
+    "replayframes_machines",
+    "replayframes_start",
+]
 
 # The quick comparison takes about a minute; one that does not end is a failure.
 SECONDS = "600"

@@ -4,8 +4,15 @@ use std::fs;
 use std::path::{Path, PathBuf};
 
 /// The crates whose archives are linked.
-const ARCHIVES: [&str; 4] =
-    ["replayframes", "replayframes_allocator", "replayframes_frames", "replayframes_config"];
+const ARCHIVES: [&str; 7] = [
+    "replayframes",
+    "replayframes_looks",
+    "replayframes_allocator",
+    "replayframes_frames",
+    "replayframes_config",
+    "replayframes_machines",
+    "replayframes_start",
+];
 
 /// A folder that cargo names.
 fn folder(variable: &str) -> PathBuf {

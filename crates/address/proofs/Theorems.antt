@@ -1,11 +1,11 @@
 -- What is proved of ranges, regions and translation, from the definitions alone: the laws that the original states of its regions, and
 -- that pages and addresses say the same of a valid region. Assumes nothing.
 use mathlib.Core.Path.{_≡_, refl, sym, _∙_}
-use mathlib.Core.Bool.{Bool, true, false}
 use Prim.Native.Nat.{ℕ, _+_, _-_, _*_, _/_, _%_, _^_, _≤_, _<_}
 use native.Mathlib.Omega.{arith}
 use borrow.Author.Tests.{eq-eqb, ne-eqb, lt-ltb, le-ltb}
 use lib.Dec.{eqb, ltb}
+use Rattle.base.specs.Choices.{pick}
 use Rattle.address.specs.Pages.{InPages, Share, Contains}
 use Rattle.address.specs.Regions.{Valid, ValiditySays, hostOf}
 use Rattle.address.specs.declared.Fault.{Fault}
@@ -97,10 +97,6 @@ translates-pages m =
 
 -- ---- validity
 
-pick : Bool → Fault → Fault → Fault
-pick true a b = a
-pick false a b = b
-
 -- the first condition that a region breaks, computed
 firstFault : ℕ → ℕ → ℕ → Fault
 firstFault guest host pages =
@@ -114,7 +110,7 @@ not-below : (a b : ℕ) → (a < b → ⊥) → b ≤ a
 not-below a b n = omega (arith, n)
 
 fault-is : (guest host pages : ℕ) (f : Fault) → ValiditySays guest host pages f → firstFault guest host pages ≡ f
-unfolding pick firstFault
+unfolding firstFault
 fault-is g h p Fault.Nothing v =
     simp (ne-eqb p 0 (λ e. omega arith), eq-eqb (g % 4096) 0 (v .on .guest-start), eq-eqb (h % 4096) 0 (v .on .host-start), lt-ltb (g + 4096 * p) 18446744073709551616 (v .guest-end), lt-ltb (h + 4096 * p) 18446744073709551616 (v .host-end))
 fault-is g h p Fault.NoPage v = simp (eq-eqb p 0 v)

@@ -5,7 +5,7 @@ use mathlib.Core.List.{List}
 use Prim.Native.Nat.{ℕ, _≤_, _<_}
 use Rattle.base.specs.Search.{Stops}
 use Rattle.bitmap_tree.specs.Tree.{cap, Agree}
-use Rattle.bitmap_allocator.specs.Looks.{LowestLie}
+use Rattle.bitmap_looks.specs.Looks.{LowestLie}
 use Rattle.owners.specs.States.{State, State.Free, State.Reserved, State.Owned, state, rightAt, Accounted}
 use Rattle.owner_passes.specs.Passes.{ownedBy}
 use Rattle.claims.specs.Fits.{Fits, Misfit}

@@ -2,3 +2,5 @@
 pub mod Says
 pub mod Search
 pub mod Counts
+pub mod Ranges
+pub mod Choices

@@ -17,3 +17,9 @@ howMany f (suc n) = howMany f n + f n
 pub record Only (t : List ℕ) (a b : ℕ) (t′ : List ℕ) : Type 0 where
   pub long : length t′ ≡ length t
   pub others : (k : ℕ) → Outside a b k → getD t′ k 0 ≡ getD t k 0
+
+-- the words from p up to q are 0, and no other changed
+pub record Emptied (w : List ℕ) (p q : ℕ) (w′ : List ℕ) : Type 0 where
+  pub long : length w′ ≡ length w
+  pub inside : (j : ℕ) → p ≤ j → j < q → getD w′ j 0 ≡ 0
+  pub outside : (j : ℕ) → Outside p q j → getD w′ j 0 ≡ getD w j 0

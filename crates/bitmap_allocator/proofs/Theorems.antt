@@ -12,7 +12,7 @@ use Rattle.bitmap_tree.specs.Writes.{Changed}
 use Rattle.bitmap_tree.proofs.Nodes.{parent-none}
 use Rattle.bitmap_tree.proofs.Fullness.{full-exists}
 use Rattle.bitmap_allocator.specs.declared.Wiped.{Wiped}
-use Rattle.bitmap_allocator.specs.Looks.{freeFrames}
+use Rattle.bitmap_looks.specs.Looks.{freeFrames}
 use Rattle.bitmap_allocator.specs.Changes.{Reset, ResetSays, Took, TookRun, Gave, SetRange}
 
 -- ---- what the contracts assume is met at every size

@@ -1,3 +1,2 @@
--- What the public contracts say. `Looks` has the functions that only look, and `Changes` those that change the tree.
-pub mod Looks
+-- What the functions that change a tree answer.
 pub mod Changes

@@ -1,8 +1,8 @@
 // What the allocator answers, as plain numbers, and the numbers that stand in a file of answers. A
 // library for programs that replay requests; nothing here prints.
 ghost use Prim.Native.Nat.{_<_};
-use bitmap_allocator::Tested;
-use bitmap_allocator::Words;
+use bitmap_looks::Tested;
+use bitmap_looks::Words;
 
 // The answer that there is no such frame, as the file has it.
 pub const NONE: usize = 4294967295;
@@ -13,7 +13,7 @@ const MOST: usize = 18446744073709551615;
 
 // How many words a tree of so many frames has, or 0 if there is no such tree.
 pub fn words(frames: usize) -> usize {
-    match bitmap_allocator::words_for(frames) {
+    match bitmap_looks::words_for(frames) {
         Words::Count(w) => w,
         Words::NoSize => 0,
     }
@@ -50,7 +50,7 @@ fn told(answer: usize) -> usize {
 
 // 1 if frame k is free, and 0 if it is taken.
 pub fn free_at(tree: &[u16], k: usize) -> usize {
-    match bitmap_allocator::test(tree, k) {
+    match bitmap_looks::test(tree, k) {
         Tested::Free => 1,
         Tested::Taken => 0,
         Tested::Outside => REFUSED,

@@ -1,5 +1,5 @@
 // Whether a request changed what its answer says, by `test` of every frame before and after.
-use bitmap_allocator::Tested;
+use bitmap_looks::Tested;
 use bitmap_requests::ALLOC;
 use bitmap_requests::ALLOC_CONTIGUOUS;
 use bitmap_requests::DEALLOC;
@@ -12,7 +12,7 @@ use bitmap_requests::RESET;
 
 // What `test` says of frame k: 1 if it is free, 0 if it is taken, and 2 if it is neither.
 fn tested(tree: &[u16], k: usize) -> u16 {
-    match bitmap_allocator::test(tree, k) {
+    match bitmap_looks::test(tree, k) {
         Tested::Free => 1,
         Tested::Taken => 0,
         Tested::Outside => 2,

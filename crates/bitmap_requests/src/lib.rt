@@ -2,16 +2,16 @@
 // request is made, and the answer is a number too: its kind, and 32 times the frame, the word or the
 // number of things that it tells, if it tells one.
 use bitmap_allocator::Allocated;
-use bitmap_allocator::Checked;
-use bitmap_allocator::Counted;
 use bitmap_allocator::Freed;
-use bitmap_allocator::NextFree;
 use bitmap_allocator::Ranged;
 use bitmap_allocator::RunTaken;
-use bitmap_allocator::SomeFree;
-use bitmap_allocator::Tested;
 use bitmap_allocator::Wiped;
-use bitmap_allocator::Words;
+use bitmap_looks::Checked;
+use bitmap_looks::Counted;
+use bitmap_looks::NextFree;
+use bitmap_looks::SomeFree;
+use bitmap_looks::Tested;
+use bitmap_looks::Words;
 
 // The requests. bitmap_names has their names, and those of the answers, in this order.
 pub const WORDS_FOR: usize = 0;
@@ -88,13 +88,13 @@ pub fn with(kind: usize, number: usize) -> usize {
 // Makes a request, with up to two numbers.
 pub fn make(tree: &mut [u16], request: usize, a: usize, b: usize) -> usize {
     match request {
-        WORDS_FOR => words(bitmap_allocator::words_for(a)),
-        CAP => counted(bitmap_allocator::cap(tree)),
-        COUNT_FREE => counted(bitmap_allocator::count_free(tree)),
-        ANY => some_free(bitmap_allocator::any(tree)),
-        TEST => tested(bitmap_allocator::test(tree, a)),
-        NEXT => next_free(bitmap_allocator::next(tree, a)),
-        CHECK => checked(bitmap_allocator::check(tree)),
+        WORDS_FOR => words(bitmap_looks::words_for(a)),
+        CAP => counted(bitmap_looks::cap(tree)),
+        COUNT_FREE => counted(bitmap_looks::count_free(tree)),
+        ANY => some_free(bitmap_looks::any(tree)),
+        TEST => tested(bitmap_looks::test(tree, a)),
+        NEXT => next_free(bitmap_looks::next(tree, a)),
+        CHECK => checked(bitmap_looks::check(tree)),
         RESET => wiped(bitmap_allocator::reset(tree)),
         ALLOC => allocated(bitmap_allocator::alloc(tree)),
         ALLOC_CONTIGUOUS => run_taken(bitmap_allocator::alloc_contiguous(tree, a, b)),

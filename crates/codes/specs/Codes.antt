@@ -26,7 +26,7 @@ empty = 4
 abbrev pub reversed : ℕ
 reversed = 5
 
--- no frame, or no such run of frames, is free
+-- no frame, or no such run of frames, is free; or no slot of the set
 abbrev pub noRoom : ℕ
 noRoom = 6
 
@@ -34,7 +34,7 @@ noRoom = 6
 abbrev pub notTaken : ℕ
 notTaken = 7
 
--- a summary does not agree with what it summarises
+-- a summary does not agree with what it summarises, or the memories are not sound
 abbrev pub corrupt : ℕ
 corrupt = 8
 
@@ -89,6 +89,62 @@ beyond = 20
 -- the frame is free and not empty
 abbrev pub dirty : ℕ
 dirty = 21
+
+-- no machine of the configuration has the number
+abbrev pub noMachine : ℕ
+noMachine = 48
+
+-- the machine is there already
+abbrev pub present : ℕ
+present = 49
+
+-- the machine is not there: it has not been added
+abbrev pub notPresent : ℕ
+notPresent = 50
+
+-- the machine still has a region or a frame
+abbrev pub notEmpty : ℕ
+notEmpty = 51
+
+-- the configuration does not give the machine that region
+abbrev pub notGiven : ℕ
+notGiven = 52
+
+-- the region has a guest page in common with one of the set
+abbrev pub overlap : ℕ
+overlap = 53
+
+-- that very region is not in the set
+abbrev pub notInSet : ℕ
+notInSet = 54
+
+-- no region of the set has the guest address
+abbrev pub notMapped : ℕ
+notMapped = 55
+
+-- kinds are numbered 0 to 2
+abbrev pub noKind : ℕ
+noKind = 56
+
+-- sets are numbered 0 and 1
+abbrev pub noSet : ℕ
+noSet = 57
+
+-- the machines' words are not as many as any number of slots gives
+abbrev pub badZones : ℕ
+badZones = 58
+
+-- a machine is given more regions than a set has slots
+abbrev pub fewSlots : ℕ
+fewSlots = 59
+
+-- the allocator's region has more pages than there are frames
+abbrev pub poolTooLarge : ℕ
+poolTooLarge = 60
+
+-- more frames have contents than the allocator's region has pages
+abbrev pub framesTooMany : ℕ
+framesTooMany = 61
 
 -- r is the code of an answer that says what is so
 pub record Coded {A : Type 0} (Says : A → Type 0) (code : A → ℕ) (r : ℕ) : Type 0 where

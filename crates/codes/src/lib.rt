@@ -12,11 +12,11 @@ pub const RF_OUTSIDE: u32 = 3;
 pub const RF_EMPTY: u32 = 4;
 // The range ends before it starts.
 pub const RF_REVERSED: u32 = 5;
-// No frame, or no such run of frames, is free.
+// No frame, or no such run of frames, is free; or no slot of the set.
 pub const RF_NO_ROOM: u32 = 6;
 // The frame is free already.
 pub const RF_NOT_TAKEN: u32 = 7;
-// A summary does not agree with what it summarises.
+// A summary does not agree with what it summarises, or the memories are not sound.
 pub const RF_CORRUPT: u32 = 8;
 // There are not as many bytes of owners as frames.
 pub const RF_UNMATCHED: u32 = 9;
@@ -44,3 +44,31 @@ pub const RF_UNBACKED: u32 = 19;
 pub const RF_BEYOND: u32 = 20;
 // The frame is free and not empty.
 pub const RF_DIRTY: u32 = 21;
+// No machine of the configuration has the number.
+pub const RF_NO_MACHINE: u32 = 48;
+// The machine is there already.
+pub const RF_PRESENT: u32 = 49;
+// The machine is not there: it has not been added.
+pub const RF_NOT_PRESENT: u32 = 50;
+// The machine still has a region or a frame.
+pub const RF_NOT_EMPTY: u32 = 51;
+// The configuration does not give the machine that region.
+pub const RF_NOT_GIVEN: u32 = 52;
+// The region has a guest page in common with one of the set.
+pub const RF_OVERLAP: u32 = 53;
+// That very region is not in the set.
+pub const RF_NOT_IN_SET: u32 = 54;
+// No region of the set has the guest address.
+pub const RF_NOT_MAPPED: u32 = 55;
+// Kinds are numbered 0 to 2.
+pub const RF_NO_KIND: u32 = 56;
+// Sets are numbered 0 and 1.
+pub const RF_NO_SET: u32 = 57;
+// The machines' words are not as many as any number of slots gives.
+pub const RF_ZONES: u32 = 58;
+// A machine is given more regions than a set has slots.
+pub const RF_FEW_SLOTS: u32 = 59;
+// The allocator's region has more pages than there are frames.
+pub const RF_POOL_TOO_LARGE: u32 = 60;
+// More frames have contents than the allocator's region has pages.
+pub const RF_FRAMES_TOO_MANY: u32 = 61;

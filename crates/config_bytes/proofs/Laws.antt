@@ -10,7 +10,8 @@ use borrow.Author.Tests.{leb-true, le-leb}
 use lib.ListN.{length, getD}
 use lib.Dec.{leb}
 use Rattle.config_bytes.specs.Fields.{le16, machines, offset, count, Part, Readable}
-use Rattle.config_bytes.specs.Reading.{pick, after, field, regionRead, regionsRead, machineRead, machinesRead, readOf}
+use Rattle.base.specs.Choices.{pick}
+use Rattle.config_bytes.specs.Reading.{after, field, regionRead, regionsRead, machineRead, machinesRead, readOf}
 use Rattle.config_bytes.specs.declared.Read.{Read}
 
 -- ---- steps

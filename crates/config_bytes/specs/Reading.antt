@@ -1,16 +1,12 @@
 -- What reading the fields from front to back finds first. Each definition reads one thing, and `next` is what is found behind it.
 -- `proofs/Laws.antt` shows that nothing is found exactly if the bytes are `Readable`. Assumes nothing.
-use mathlib.Core.Bool.{Bool, true, false}
 use mathlib.Core.List.{List}
 use Prim.Native.Nat.{ℕ, zero, suc, _+_, _*_}
 use lib.ListN.{length, getD}
 use lib.Dec.{leb}
+use Rattle.base.specs.Choices.{pick}
 use Rattle.config_bytes.specs.Fields.{le16, machines}
 use Rattle.config_bytes.specs.declared.Read.{Read}
-
-abbrev pub pick : Bool → Read → Read → Read
-pick true a b = a
-pick false a b = b
 
 -- r, and behind it next, where nothing is wrong in r
 abbrev pub after : Read → Read → Read

@@ -16,7 +16,7 @@ use Rattle.config_view.specs.View.{viewed}
 use Rattle.config_view.proofs.Laws.{view-table, view-machines, view-count}
 use Rattle.config_kept.specs.Words.{Words}
 use Rattle.config_kept.proofs.Laws.{words-in-view}
-use Rattle.config_write.proofs.Laws.{set-only, only-then, only-none}
+use Rattle.base.proofs.Ranges.{set-only, only-then, only-none}
 use Rattle.config_encode.specs.Encoding.{Wrote, RegionBytes, WroteRegion, WroteRegions, MachineBytes, WroteMachine, WroteMachines, WroteAll, startOf, sizeOf}
 
 -- ---- numbers that stay

@@ -1,7 +1,6 @@
 -- The check as nine stages, numbered in their order: reading, numbers, valid regions, the allocator's, alone, together, clear, off the
 -- allocator's, nothing left over. A reason is a stage that fails behind stages that hold, and four numbers. Assumes nothing.
 use mathlib.Core.Path.{_≡_, refl, sym, ap, _∙_, subst}
-use mathlib.Core.Bool.{Bool, true, false}
 use mathlib.Core.List.{List}
 use Prim.Native.Nat.{ℕ, zero, suc, _+_, _-_, _≤_, _<_}
 use native.Mathlib.Decide.{decLt}
@@ -10,6 +9,7 @@ use borrow.Author.Tests.{eq-eqb, ne-eqb}
 use lib.ListN.{length}
 use lib.Dec.{eqb}
 use Rattle.base.specs.Search.{First}
+use Rattle.base.specs.Choices.{pick}
 use Rattle.base.proofs.Search.{none-first, first-row-once, first-once}
 use Rattle.address.specs.declared.Fault.{Fault}
 use Rattle.address.specs.Regions.{Valid}
@@ -105,10 +105,6 @@ ofRead Read.TooManyMachines = Reason.TooManyMachines
 ofRead (Read.TooManyRegions m) = Reason.TooManyRegions m
 ofRead (Read.UnknownKind m i) = Reason.UnknownKind m i
 
-unfoldable pub pick : Bool → Reason → Reason → Reason
-pick true a b = a
-pick false a b = b
-
 -- the reason of a stage and four numbers
 unfoldable pub reasonFrom : ℕ → ℕ → ℕ → ℕ → ℕ → Reason
 reasonFrom zero a b d e = ofRead (readFrom a b d)
@@ -148,7 +144,7 @@ pub record Staged (s : List ℕ) (r : Reason) : Type 0 where
   pub is : reasonFrom stage a b d e ≡ r
 
 pub staged : (s : List ℕ) (r : Reason) → RefusedSays s r → Staged s r
-unfolding reasonFrom ofRead readFrom pick faultNumber faultOf
+unfolding reasonFrom ofRead readFrom faultNumber faultOf
 staged s (Reason.TooShort at) x = record { stage = 0; last = omega arith; a = 0; b = at; d = 0; e = 0; holds = tt; fails = x; is = refl }
 staged s Reason.TooManyMachines x = record { stage = 0; last = omega arith; a = 1; b = 0; d = 0; e = 0; holds = tt; fails = x; is = refl }
 staged s (Reason.TooManyRegions m) x = record { stage = 0; last = omega arith; a = 2; b = m; d = 0; e = 0; holds = tt; fails = x; is = refl }

@@ -2,19 +2,15 @@
 -- words for each of 32 regions. Word 8320 is the number of machines, and the four words behind it are the allocator's region.
 -- Assumes nothing.
 use mathlib.Core.Path.{_≡_}
-use mathlib.Core.Bool.{Bool, true, false}
 use mathlib.Core.List.{List}
 use Prim.Native.Nat.{ℕ, _+_, _*_, _%_, _<_, min}
 use lib.ListN.{length, getD}
 use lib.Dec.{ltb}
+use Rattle.base.specs.Choices.{pick}
 use Rattle.address.specs.declared.Kind.{Kind}
 use Rattle.address.specs.declared.Region.{Region}
-use Rattle.region_words.specs.Words.{regionOf, HasRegion}
+use Rattle.region_words.specs.Words.{nothing, regionOf, HasRegion}
 use Rattle.config_model.specs.Config.{Config}
-
-abbrev pub pick : {A : Type 0} → Bool → A → A → A
-pick true a b = a
-pick false a b = b
 
 -- the configuration in any words: counts above 64 and 32 read as 64 and 32, and a number by its lower 16 bits
 abbrev pub tableConfig : List ℕ → Config
@@ -26,10 +22,6 @@ tableConfig t =
       region = λ m i. regionOf t (130 * m + (2 + 4 * i));
       pool = regionOf t 8321;
     }
-
--- the region whose words are 0
-abbrev pub nothing : Region
-nothing = record { guest = 0; host = 0; pages = 0; kind = Kind.Ordinary }
 
 -- what a table holds of machine m: its number and its count, and 0 where there is no machine m
 unfoldable pub numberIn : Config → ℕ → ℕ

@@ -4,9 +4,10 @@ use mathlib.Core.List.{List}
 use Prim.Native.Nat.{ℕ, _*_, _<_}
 use lib.ListN.{length}
 use lib.Dec.{eqb}
+use Rattle.base.specs.Choices.{pick}
 use Rattle.config_model.specs.Config.{Config}
 use Rattle.config_bytes.specs.Fields.{configOf, offset, Readable}
-use Rattle.config_view.specs.Table.{pick, tableConfig}
+use Rattle.config_view.specs.Table.{tableConfig}
 
 -- the configuration
 unfoldable pub viewed : List ℕ → List ℕ → Config

@@ -1,18 +1,20 @@
 -- What stays when something else is written. Assumes nothing.
-use mathlib.Core.Path.{_≡_, refl, _∙_, subst}
+use mathlib.Core.Path.{_≡_, _∙_, subst}
 use mathlib.Core.List.{List}
 use Prim.Native.Nat.{ℕ, _+_, _*_, _≤_, _<_}
 use native.Mathlib.Decide.{decLt, ℕ-discrete}
 use native.Mathlib.Omega.{arith}
 use borrow.Author.Tests.{lt-ltb, le-ltb}
-use lib.ListN.{length, set, length-set}
-use lib.Seq.{getD-set-same, getD-set-other}
+use lib.ListN.{length, set}
+use lib.Seq.{getD-set-same}
+use Rattle.base.proofs.Ranges.{only-none, set-only, only-then}
 use Rattle.base.specs.Ranges.{Outside, Only}
 use Rattle.address.specs.declared.Kind.{Kind}
 use Rattle.address.specs.declared.Region.{Region}
-use Rattle.region_words.specs.Words.{HasRegion, Put}
+use Rattle.region_words.specs.Words.{nothing, HasRegion, Put}
+use Rattle.region_words.proofs.Laws.{put-only}
 use Rattle.config_model.specs.Config.{Config}
-use Rattle.config_view.specs.Table.{Table, numberIn, countIn, regionIn, nothing}
+use Rattle.config_view.specs.Table.{Table, numberIn, countIn, regionIn}
 use Rattle.config_write.specs.Writing.{MachineIn, WroteRegions, WroteMachine, WroteMachines}
 
 -- ---- what a table holds
@@ -60,22 +62,6 @@ region-kept {at = at} o apart h =
       pages = o .others (at + 2) (apart (at + 2) (omega arith) (omega arith)) ∙ h .pages;
       kind = o .others (at + 3) (apart (at + 3) (omega arith) (omega arith)) ∙ h .kind;
     }
-
--- a region was put
-pub put-only : {t t′ : List ℕ} {at : ℕ} {r : Region} → Put t at r t′ → Only t at (at + 4) t′
-put-only p = record { long = p .long; others = p .others }
-
--- one store
-pub set-only : (t : List ℕ) (k v : ℕ) → Only t k (k + 1) (set t k v)
-set-only t k v = record { long = simp length-set; others = λ j o. getD-set-other t k j v 0 (λ e. o (omega arith) (omega arith)) }
-
--- two changes, within one range
-pub only-then : {t t′ t″ : List ℕ} {a b a′ b′ : ℕ} (x y : ℕ) → Only t a b t′ → Only t′ a′ b′ t″ → x ≤ a → b ≤ y → x ≤ a′ → b′ ≤ y → Only t x y t″
-only-then x y o p l l′ h h′ =
-    record { long = p .long ∙ o .long; others = λ k q. p .others k (λ u w. q (omega arith) (omega arith)) ∙ o .others k (λ u w. q (omega arith) (omega arith)) }
-
-pub only-none : (t : List ℕ) (a b : ℕ) → Only t a b t
-only-none t a b = record { long = refl; others = λ k o. refl }
 
 -- a machine whose words were not written
 pub machine-kept : {c : Config} {m : ℕ} {t t′ : List ℕ} {a b : ℕ} → Only t a b t′ → ((k : ℕ) → 130 * m ≤ k → k < 130 * m + 130 → Outside a b k) → MachineIn c m t → MachineIn c m t′

@@ -1,32 +1,16 @@
 -- Words and frames that are wiped. Assumes nothing.
-use mathlib.Core.Path.{_≡_, refl, sym, _∙_}
+use mathlib.Core.Path.{_≡_, refl, _∙_}
 use mathlib.Core.List.{List}
-use mathlib.Core.Bool.{true, false}
-use Prim.Native.Nat.{ℕ, _+_, _-_, _*_, _/_, _≤_, _<_}
-use native.Mathlib.Decide.{ℕ-discrete, decLt}
+use Prim.Native.Nat.{ℕ, _+_, _-_, _*_, _≤_, _<_}
+use native.Mathlib.Decide.{ℕ-discrete}
 use native.Mathlib.Omega.{arith}
-use lib.ListN.{length, getD, set, length-set}
-use lib.Seq.{getD-set-same, getD-set-other}
+use lib.ListN.{length, getD}
+use Rattle.base.specs.Ranges.{Emptied}
 use Rattle.base.specs.Search.{Stops}
-use Rattle.owners.specs.States.{State, State.Reserved, State.Owned, state}
+use Rattle.owners.specs.States.{State, State.Owned, state}
 use Rattle.owner_passes.specs.Passes.{owns}
 use Rattle.owner_passes.proofs.Counting.{owns-none, owns-one, owns-small}
-use Rattle.contents.specs.Contents.{framesIn, Zero, Same, Emptied, Wiped, WipedOf}
-
-pub empty-none : (w : List ℕ) (p : ℕ) → Emptied w p p w
-empty-none w p = record { long = refl; inside = λ j l h. absurd (omega arith); outside = λ j x. refl }
-
--- one word more
-pub empty-more : (w : List ℕ) (p j : ℕ) (w′ : List ℕ) → p ≤ j → j < length w′ → Emptied w p j w′ → Emptied w p (j + 1) (set w′ j 0)
-empty-more w p j w′ l h f = record {
-  long = length-set w′ j 0 ∙ f .long;
-  inside = λ m lo hi. here m lo hi (ℕ-discrete m j);
-  outside = λ m x. getD-set-other w′ j m 0 0 (λ e. x (omega arith) (omega arith)) ∙ f .outside m (λ a b. x a (omega arith));
-}
-  where
-    here : (m : ℕ) → p ≤ m → m < j + 1 → Dec (m ≡ j) → getD (set w′ j 0) m 0 ≡ 0
-    here m lo hi (yes e) = rw e (getD-set-same w′ j 0 0 h)
-    here m lo hi (no d) = getD-set-other w′ j m 0 0 d ∙ f .inside m lo (omega (arith, d))
+use Rattle.contents.specs.Contents.{framesIn, Zero, Same, Wiped, WipedOf}
 
 -- the words of whole frames
 pub wiped-frames : (w : List ℕ) (a b : ℕ) (w′ : List ℕ) → Emptied w (512 * a) (512 * b) w′ → Wiped w a b w′

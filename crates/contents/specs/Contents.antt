@@ -24,12 +24,6 @@ Zero w k = (i : ℕ) → i < 512 → getD w (512 * k + i) 0 ≡ 0
 abbrev pub Same : List ℕ → List ℕ → ℕ → Type 0
 Same w w′ k = (i : ℕ) → i < 512 → getD w′ (512 * k + i) 0 ≡ getD w (512 * k + i) 0
 
--- the words from p up to q are 0, and no other changed
-pub record Emptied (w : List ℕ) (p q : ℕ) (w′ : List ℕ) : Type 0 where
-  pub long : length w′ ≡ length w
-  pub inside : (j : ℕ) → p ≤ j → j < q → getD w′ j 0 ≡ 0
-  pub outside : (j : ℕ) → Outside p q j → getD w′ j 0 ≡ getD w j 0
-
 -- the frames from a up to b are all 0, and no other frame's words changed
 pub record Wiped (w : List ℕ) (a b : ℕ) (w′ : List ℕ) : Type 0 where
   pub long : length w′ ≡ length w

@@ -7,7 +7,7 @@ ghost use Rattle.base.specs.Says.{Says};
 ghost use Rattle.base.specs.Search.{Stops};
 ghost use Rattle.bitmap_tree.specs.Tree.{free, cap};
 ghost use Rattle.owners.specs.States.{Matched, state, State.Reserved, State.Owned};
-ghost use Rattle.contents.specs.Contents.{Backed, framesIn, Zero, Emptied, Wiped, WipedOf};
+ghost use Rattle.contents.specs.Contents.{Backed, framesIn, Zero, Wiped, WipedOf};
 
 // Whether the contents are those of whole frames, of as many as there are at most.
 pub fn is_backed(owners: &[u8], words: &[u64]) -> bool
@@ -23,24 +23,12 @@ pub fn is_backed(owners: &[u8], words: &[u64]) -> bool
     }
 }
 
-// Makes the words from p up to q 0.
-fn empty(words: &mut [u64], p: usize, q: usize)
-    requires { ⌜ (p ≤ q) × (q ≤ length (now words)) ⌝ }
-    ensures { λ _. ⌜ Emptied (now (words .entry)) p q (now (words .exit)) ⌝ }
-{
-    let mut j = p;
-    while j < q {
-        words[j] = 0;
-        j += 1;
-    }
-}
-
 // Makes every word of the frames from a up to b 0.
 pub fn wipe(words: &mut [u64], a: usize, b: usize)
     requires { ⌜ (a ≤ b) × (b ≤ framesIn (now words)) ⌝ }
     ensures { λ _. ⌜ Wiped (now (words .entry)) a b (now (words .exit)) ⌝ }
 {
-    empty(words, 512 * a, 512 * b);
+    base::zero(words, 512 * a, 512 * b);
 }
 
 // Makes every word of the frames of the client c 0.

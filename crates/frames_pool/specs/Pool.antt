@@ -7,7 +7,7 @@ use mathlib.Core.List.{List}
 use Prim.Native.Nat.{ℕ, _+_, _*_, _^_, _≤_, _<_}
 use Rattle.base.specs.Search.{Stops}
 use Rattle.bitmap_tree.specs.Tree.{free, cap}
-use Rattle.bitmap_allocator.specs.Looks.{LowestLie}
+use Rattle.bitmap_looks.specs.Looks.{LowestLie}
 use Rattle.owners.specs.States.{State.Reserved, State.Owned, state, Accounted}
 use Rattle.owner_passes.specs.Passes as passes
 use Rattle.claims.specs.Fits.{Fits, Misfit}

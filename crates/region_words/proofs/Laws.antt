@@ -5,7 +5,7 @@ use Prim.Native.Nat.{ℕ, zero, suc, _+_, _≤_, _<_}
 use native.Mathlib.Omega.{arith}
 use lib.ListN.{length, getD, set, length-set}
 use lib.Seq.{getD-set-same, getD-set-other}
-use Rattle.base.specs.Ranges.{Outside}
+use Rattle.base.specs.Ranges.{Outside, Only}
 use Rattle.address.specs.declared.Kind.{Kind}
 use Rattle.address.specs.declared.Region.{Region}
 use Rattle.region_words.specs.Words.{kindOf, numberOf, regionOf, HasRegion, Put}
@@ -118,3 +118,7 @@ module _ (t : List ℕ) (at : ℕ) (r : Region) (f : ℕ) (l : at + 4 ≤ length
   pub put-four : Put t at r (set (set (set (set t at (r .guest)) (at + 1) (r .host)) (at + 2) (r .pages)) (at + 3) f)
   unfolding after1 after2 after3 after4
   put-four = record { long = long4; has = record { guest = guest-word; host = host-word; pages = pages-word; kind = kind-word }; others = left }
+
+-- no words but those of the region are written
+pub put-only : {t t′ : List ℕ} {at : ℕ} {r : Region} → Put t at r t′ → Only t at (at + 4) t′
+put-only p = record { long = p .long; others = p .others }

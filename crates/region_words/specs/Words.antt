@@ -19,6 +19,10 @@ numberOf Kind.Ordinary = 0
 numberOf Kind.Device = 1
 numberOf Kind.Shared = 2
 
+-- the region whose words are 0
+abbrev pub nothing : Region
+nothing = record { guest = 0; host = 0; pages = 0; kind = Kind.Ordinary }
+
 -- the region in the words of t from `at` on
 unfoldable pub regionOf : List ℕ → ℕ → Region
 regionOf t at = record { guest = getD t at 0; host = getD t (at + 1) 0; pages = getD t (at + 2) 0; kind = kindOf (getD t (at + 3) 0) }

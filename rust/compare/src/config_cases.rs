@@ -61,13 +61,13 @@ fn same(bytes: &[u8]) -> Result<Answer, String> {
 }
 
 /// Each with the answer that it must have: for every rule the smallest configuration that breaks it and nothing else.
-pub fn smallest() -> Result<String, String> {
+fn cases() -> Vec<(&'static str, Vec<u8>, Answer)> {
     let small = bytes(&one(vec![]));
     let page = region(0, 0, 1, 0);
     let odd = |guest, host, pages| Region { guest, host, pages, kind: 0 };
     let mut behind = small.clone();
     behind.push(0);
-    let cases: Vec<(&str, Vec<u8>, Answer)> = vec![
+    vec![
         ("no machine", bytes(&Config { machines: vec![], pool: (0, 1) }), [0, 0, 0, 0, 0]),
         ("one machine with no region", small.clone(), [0, 1, 0, 0, 0]),
         ("the truck", bytes(&truck()), [0, 4, 0, 0, 0]),
@@ -110,7 +110,17 @@ pub fn smallest() -> Result<String, String> {
         ("guest page twice", bytes(&one(vec![page, region(0, 1, 1, 0)])), [42, 0, 0, 1, 0]),
         ("the allocator's page", bytes(&one(vec![region(0, 0x1000, 1, 2)])), [43, 0, 0, 0, 0]),
         ("a byte left over", behind, [44, small.len() as u64, 0, 0, 0]),
-    ];
+    ]
+}
+
+/// The bytes of these configurations.
+pub fn smallest_cases() -> impl Iterator<Item = Vec<u8>> {
+    cases().into_iter().map(|(_, bytes, _)| bytes)
+}
+
+/// Ours answers each of them as it must.
+pub fn smallest() -> Result<String, String> {
+    let cases = cases();
     for (name, bytes, wanted) in &cases {
         let answer = same(bytes)?;
         if answer != *wanted {

@@ -114,20 +114,25 @@ fn overlap(a: u64, n: u64, b: u64, k: u64) -> bool {
     a < b + PAGE * u128::from(k) && b < a + PAGE * u128::from(n)
 }
 
-/// What `check` must answer.
-pub fn check(bytes: &[u8]) -> Answer {
+/// The configuration that bytes are, or why they are none that is right.
+pub fn accepted(bytes: &[u8]) -> Result<Config, Answer> {
     let mut reader = Reader { bytes, at: 0 };
-    let config = match read(&mut reader) {
-        Ok(config) => config,
-        Err(answer) => return answer,
-    };
+    let config = read(&mut reader)?;
     if let Some(answer) = rules(&config) {
-        return answer;
+        return Err(answer);
     }
     if reader.at < bytes.len() {
-        return [44, reader.at as u64, 0, 0, 0];
+        return Err([44, reader.at as u64, 0, 0, 0]);
     }
-    [0, config.machines.len() as u64, 0, 0, 0]
+    Ok(config)
+}
+
+/// What `check` must answer.
+pub fn check(bytes: &[u8]) -> Answer {
+    match accepted(bytes) {
+        Ok(config) => [0, config.machines.len() as u64, 0, 0, 0],
+        Err(answer) => answer,
+    }
 }
 
 fn rules(config: &Config) -> Option<Answer> {

@@ -1,9 +1,10 @@
 //! The proved bitmap, through its exported functions. All that is unsafe in this workspace is here and in
-//! the two modules beneath, which are the shared allocator without and with contents.
+//! the modules beneath: the shared allocator without and with contents, and the machines.
 use crate::request::{Answer, Reason, Request};
 
 pub mod allocator;
 pub mod frames;
+pub mod machines;
 
 extern "C" {
     fn rf_bitmap_words_for(frames: usize, words: *mut usize) -> u32;

@@ -6,9 +6,11 @@
 //!
 //! No function is inlined into its caller, as none of the proved archive can be.
 
-/// A tree of a size that it was made with.
-pub struct Rival {
-    pub words: Vec<u16>,
+use std::ops::DerefMut;
+
+/// A tree of a size that it was made with, in words that are its own or lent.
+pub struct Rival<W = Vec<u16>> {
+    pub words: W,
 }
 
 impl Rival {
@@ -16,7 +18,9 @@ impl Rival {
     pub fn new(depth: u32) -> Rival {
         Rival { words: vec![0; (16_usize.pow(depth) - 1) / 15] }
     }
+}
 
+impl<W: DerefMut<Target = [u16]>> Rival<W> {
     fn cap(&self) -> usize {
         15 * self.words.len() + 1
     }

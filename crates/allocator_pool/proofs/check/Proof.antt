@@ -6,7 +6,7 @@ use native.Mathlib.Omega.{arith}
 use Rattle.base.proofs.Says.{told}
 use Rattle.bitmap_tree.proofs.Fullness.{full-bound}
 use Rattle.claims.specs.Fits.{FitSays}
-use Rattle.bitmap_allocator.proofs.Answers.{no-lie, lowest-lie}
+use Rattle.bitmap_looks.proofs.Answers.{no-lie, lowest-lie}
 
 fitting-requires : tie.Need-fitting-requires
 fitting-requires c κs = search needs

@@ -4,6 +4,10 @@
 //!     compare all      the whole
 //!
 //! The last line is 'N passed, M failed', where each comparison and each finding counts as one.
+use compare::machines::rival::Rival;
+use compare::machines::subject::Machines;
+use compare::machines::{self, truck};
+use compare::ours::machines::Ours;
 use compare::random::Extent;
 use compare::report::Report;
 use compare::upstream::{BitAlloc16, BitAlloc1M, BitAlloc256, BitAlloc4K, BitAlloc64K, Leaves};
@@ -30,6 +34,12 @@ struct Plan {
     allocators: ([usize; 3], [usize; 3]),
     /// Random configurations.
     configurations: usize,
+    /// Machines: random configurations with 300 requests each, at 16, 256 and 4096 frames; of the rival a tenth.
+    machines: [usize; 3],
+    /// Damaged memories of machines, at 16, 256 and 4096 frames.
+    damaged_machines: [usize; 3],
+    /// Starts with lengths that do not go together.
+    starts: usize,
 }
 
 const QUICK: Plan = Plan {
@@ -40,6 +50,9 @@ const QUICK: Plan = Plan {
     special: ([2_000, 200, 20, 5, 2], [500, 20, 4, 0]),
     allocators: ([50_000, 10_000, 500], [5_000, 200, 5]),
     configurations: 20_000,
+    machines: [500, 150, 30],
+    damaged_machines: [2_000, 500, 30],
+    starts: 5_000,
 };
 const ALL: Plan = Plan {
     sequences: [100_000, 100_000, 20_000, 2_000, 400, 100],
@@ -49,9 +62,14 @@ const ALL: Plan = Plan {
     special: ([20_000, 2_000, 200, 50, 8], [5_000, 200, 20, 2]),
     allocators: ([500_000, 100_000, 5_000], [50_000, 1_000, 30]),
     configurations: 1_000_000,
+    machines: [20_000, 5_000, 1_000],
+    damaged_machines: [50_000, 10_000, 500],
+    starts: 100_000,
 };
 /// How many frames the shared allocators of a plan have.
 const SHARED: [usize; 5] = [16, 256, 4096, 65536, 1 << 20];
+/// How many frames the machines of a plan have.
+const MACHINES: [usize; 3] = [16, 256, 4096];
 /// A base near the end of all addresses: nine frames have a place.
 const NEAR_THE_END: usize = 0_usize.wrapping_sub(10 * 4096);
 
@@ -100,7 +118,31 @@ fn run(plan: &Plan) -> bool {
     report.run("the smallest configuration that breaks each rule", config_cases::smallest);
     report.run("the truck's configuration, cut off and changed", config_cases::changed);
     report.run("random configurations", || config_cases::random(plan.configurations));
+    truck_and_machines(&mut report, plan);
     report.end()
+}
+
+/// Machines, their regions and their frames beside the plain model.
+fn truck_and_machines(report: &mut Report, plan: &Plan) {
+    report.run("F3", truck::f3::<Ours>);
+    report.run("F14", truck::f14::<Ours>);
+    report.run("machines, the truck", truck::run::<Ours>);
+    report.run("machines, starts", || machines::starts::run::<Ours>(plan.starts));
+    for (frames, sequences) in MACHINES.into_iter().zip(plan.machines) {
+        machines_random::<Ours>(report, frames, sequences);
+        machines_random::<Rival>(report, frames, sequences / 10);
+    }
+    for (frames, memories) in MACHINES.into_iter().zip(plan.damaged_machines) {
+        let name = format!("machines, damaged memory of {frames} frames");
+        report.run(&name, || machines::damage::run::<Ours>(frames, memories));
+    }
+}
+
+/// Random sequences of machines' requests.
+fn machines_random<S: Machines>(report: &mut Report, frames: usize, sequences: usize) {
+    let name = format!("machines, random sequences at {frames}, {}", S::NAME);
+    let extent = machines::random::Extent { frames, sequences, length: 300 };
+    report.run(&name, || machines::random::run::<S>(extent));
 }
 
 /// The shared allocator beside the plain model.

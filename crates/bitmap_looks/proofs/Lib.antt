@@ -1,0 +1,2 @@
+-- What the searches say is what is answered.
+pub mod Answers

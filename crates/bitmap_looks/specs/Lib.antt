@@ -1,0 +1,2 @@
+-- What the functions that only look answer.
+pub mod Looks

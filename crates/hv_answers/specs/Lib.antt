@@ -1,0 +1,2 @@
+-- The allocator's reasons as answers.
+pub mod Answers

@@ -1,0 +1,2 @@
+-- The laws of who asks.
+pub mod Laws

@@ -1,0 +1,2 @@
+-- What is answered of the memories.
+pub mod Checking

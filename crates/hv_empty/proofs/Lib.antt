@@ -1,0 +1,2 @@
+-- What is told of a machine is what the step tests.
+pub mod Laws

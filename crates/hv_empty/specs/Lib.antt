@@ -1,0 +1,2 @@
+-- Whether a machine is empty.
+pub mod Empty

@@ -1,0 +1,2 @@
+-- That each answer of the allocator serves the request.
+pub mod Laws

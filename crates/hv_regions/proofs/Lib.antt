@@ -1,0 +1,2 @@
+-- That each answer of a set serves the request.
+pub mod Laws

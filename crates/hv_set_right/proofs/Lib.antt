@@ -1,0 +1,2 @@
+-- When a set is right.
+pub mod Laws

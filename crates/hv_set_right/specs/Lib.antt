@@ -1,0 +1,2 @@
+-- When a machine's set is right.
+pub mod Right

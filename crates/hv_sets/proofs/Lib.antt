@@ -1,0 +1,2 @@
+-- That a request about a set is served.
+pub mod Laws

@@ -1,0 +1,2 @@
+-- The set that a request is about.
+pub mod Asked

@@ -1,0 +1,2 @@
+-- What the start needs, and what it makes.
+pub mod Starting

@@ -1,0 +1,3 @@
+-- The memories, and what they mean.
+pub mod Memory
+pub mod Serving

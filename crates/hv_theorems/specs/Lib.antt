@@ -1,0 +1,2 @@
+-- What happens to the memories.
+pub mod Happening

@@ -1,0 +1,2 @@
+-- All frames of a client made free.
+pub mod Freeing

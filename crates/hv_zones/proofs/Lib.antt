@@ -1,0 +1,2 @@
+-- That a machine that comes or goes is served.
+pub mod Laws

@@ -1,0 +1,2 @@
+-- The answers to a machine as numbers.
+pub mod Codes

@@ -1,0 +1,2 @@
+-- What is answered of a set.
+pub mod Looks

@@ -1,0 +1,2 @@
+-- How a set changes.
+pub mod Changes

@@ -1,0 +1,2 @@
+-- What may be asked of a set.
+pub mod Claims

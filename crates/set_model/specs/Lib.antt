@@ -1,0 +1,2 @@
+-- Sets of regions.
+pub mod Sets

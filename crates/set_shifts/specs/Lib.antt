@@ -1,0 +1,2 @@
+-- What the writers of slots do.
+pub mod Shifts

@@ -1,0 +1,2 @@
+-- The words of a set.
+pub mod Slots

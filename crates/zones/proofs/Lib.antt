@@ -1,0 +1,2 @@
+-- The laws of the layout.
+pub mod Laws

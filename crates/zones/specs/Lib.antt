@@ -1,0 +1,2 @@
+-- Where machines lie.
+pub mod Layout
