@@ -29,7 +29,7 @@ pub enum Fault {
     // The set of its processors is not in order, has a region that the machine is not given, or has one
     // though the machine is not there.
     Processors,
-    // So is the set of its devices.
+    // Nor is the set of its devices.
     Devices,
 }
 

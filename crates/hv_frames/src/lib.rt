@@ -2,9 +2,9 @@
 // frames for itself alone. The memories are, in this order: the table of the configuration, the machines'
 // words, the tree, the owners and the frames' own words.
 //
-// Every function takes any words, any bytes and any arguments. A refusal has the first reason that
-// applies, and leaves every word and byte. Where the memories are sound, they stay so, and the answer and
-// what they mean afterwards are those of the abstract machine's `step`; "corrupt" is answered only where
+// Every function takes any words, any bytes and any arguments, and a refusal leaves every word and byte.
+// Where the memories are sound, they stay so, and the answer and what they mean afterwards are those of the
+// abstract machine's `step`: a refusal has the first reason that applies. "Corrupt" is answered only where
 // they are not.
 ghost use Rattle.machine.specs.declared.Request.the-variants.{Alloc, AllocContiguous, Dealloc, DeallocContiguous};
 ghost use Rattle.hv_state.specs.Serving.{Served, mem};
@@ -37,8 +37,8 @@ pub fn alloc(
     }
 }
 
-// Gives the machine the lowest run of `size` free frames whose first is a multiple of 2 to the power of
-// `align_log2`; all of them are empty. Answers the host address of the first.
+// Gives the machine the lowest run of `size` free frames of which the first has a number that is a multiple
+// of 2 to the power of `align_log2`; all of them are empty. Answers the host address of the first.
 pub fn alloc_contiguous(
     table: &[u64],
     zones: &[u64],

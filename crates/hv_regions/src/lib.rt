@@ -3,10 +3,10 @@
 // the configuration gives it may enter either. The memories are the first two of the order: the table of
 // the configuration and the machines' words.
 //
-// Every function takes any words and any arguments. A refusal has the first reason that applies, and
-// leaves every word. Where the memories are sound, they stay so, whatever the others hold that make them
-// sound, and the answer and what they mean afterwards are those of the abstract machine's `step`;
-// "corrupt" is answered only where they are not.
+// Every function takes any words and any arguments, and a refusal leaves every word. Where the memories are
+// sound, they stay so, whatever the others hold that make them sound, and the answer and what they mean
+// afterwards are those of the abstract machine's `step`: a refusal has the first reason that applies.
+// "Corrupt" is answered only where they are not.
 ghost use mathlib.Core.List.{List};
 ghost use Prim.Native.Nat.{ℕ};
 ghost use Rattle.machine.specs.declared.Which.the-variants.{Processors, Devices};

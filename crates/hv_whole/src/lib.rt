@@ -2,10 +2,9 @@
 // order: the table of the configuration, the machines' words, the tree, the owners and the frames' own
 // words.
 //
-// The function takes any words, any bytes and any number. A refusal has the first reason that applies, and
-// leaves every word and byte. Where the memories are sound, they stay so, and the answer and what they
-// mean afterwards are those of the abstract machine's `step`; "corrupt" is answered only where they are
-// not.
+// The function takes any words, any bytes and any number, and a refusal leaves every word and byte. Where
+// the memories are sound, they stay so, and the answer and what they mean afterwards are those of the
+// abstract machine's `step`. "Corrupt" is answered only where they are not.
 ghost use Rattle.machine.specs.declared.Request.the-variants.{RemoveZoneWhole};
 ghost use Rattle.hv_state.specs.Serving.{Served, mem};
 ghost use Rattle.hv_whole.specs.Freeing.{FreedSays};

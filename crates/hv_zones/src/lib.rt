@@ -2,10 +2,10 @@
 // that asks is named by its number. The memories are those of the order that the request needs: the table
 // of the configuration, the machines' words, the tree and the owners.
 //
-// Every function takes any words, any bytes and any number. A refusal has the first reason that applies,
-// and leaves every word. Where the memories are sound, they stay so, whatever the others hold that make
-// them sound, and the answer and what they mean afterwards are those of the abstract machine's `step`;
-// "corrupt" is answered only where they are not.
+// Every function takes any words, any bytes and any number, and a refusal leaves every word. Where the
+// memories are sound, they stay so, whatever the others hold that make them sound, and the answer and what
+// they mean afterwards are those of the abstract machine's `step`: a refusal has the first reason that
+// applies. "Corrupt" is answered only where they are not.
 ghost use mathlib.Core.List.{List};
 ghost use Prim.Native.Nat.{ℕ};
 ghost use Rattle.machine.specs.declared.Request.the-variants.{AddZone, RemoveZone};

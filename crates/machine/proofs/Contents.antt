@@ -8,7 +8,7 @@ use borrow.Author.Tests.{ltb-true}
 use Rattle.base.specs.Choices.{lowest}
 use Rattle.base.proofs.Choices.{never, by, run-cases, lowest-yes}
 use Rattle.owners.specs.States.{State.Free, State.Owned}
-use Rattle.machine.specs.declared.Request.the-variants.{AllocContiguous}
+use Rattle.machine.specs.declared.Request.the-variants.{Alloc, AllocContiguous}
 use Rattle.machine.specs.declared.Reason.{Reason}
 use Rattle.machine.specs.declared.Reason.the-variants.{NoMachine, NotPresent, NoRoom, NoFrames}
 use Rattle.machine.specs.declared.Answer.{Answer}
@@ -53,7 +53,7 @@ same-address : (x y : ℕ) → Answer.Address x ≡ Answer.Address y → x ≡ y
 unfolding addressIn
 same-address x y e = ap addressIn e
 
--- What an allocation answers was free, and is handed out all 0; one frame is a run of one.
+-- What an allocation answers was free, and is handed out all 0: a run, and one frame, which is a run of one.
 pub handed-out-clean : (p : Plan) (s : State) → Good p s → (number n a x : ℕ) → step p s number (AllocContiguous n a) .answer ≡ Answer.Address x → HandedOut p s (machineOf (p .config) number) n a x (step p s number (AllocContiguous n a) .state)
 unfolding step
 handed-out-clean p s g number n a x =
@@ -81,3 +81,7 @@ handed-out-clean p s g number n a x =
           mine = λ j u v. run-cases (λ i y. k ≤ i → i < k + n → y ≡ Owned m) (s .frame) k n (Owned m) (λ i b c b′ c′. refl) (λ i o b c. absurd (o b c)) j u v;
           clear = λ j u v. g .cleared j (run-free p s n a k f (j / 512) u v);
         }
+
+pub handed-out-one : (p : Plan) (s : State) → Good p s → (number x : ℕ) → step p s number Alloc .answer ≡ Answer.Address x → HandedOut p s (machineOf (p .config) number) 1 0 x (step p s number Alloc .state)
+unfolding step
+handed-out-one p s g number x = handed-out-clean p s g number 1 0 x

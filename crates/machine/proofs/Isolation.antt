@@ -132,7 +132,7 @@ accounted-now p s g k = go (s .frame k) refl
     go Reserved e = IsReserved e
     go (Owned m) e = IsOwned m e (g .frames .owner m k e) (λ m′ x. owned-once m′ m (sym x ∙ e))
 
--- every frame is accounted for, and the reserved ones are those that they were
+-- every frame is accounted for
 pub accounted : (p : Plan) (s : State) → Good p s → (xs : List Event) (k : ℕ) → Account (run p s xs) k
 accounted p s g xs = accounted-now p (run p s xs) (run-good p s xs g)
 
@@ -144,5 +144,6 @@ same-reserved p k a x b y e = go (decLt k (p .usable))
     go (yes l) = absurd (x .frames .others k l e)
     go (no l) = y .frames .reserved k (omega (arith, l))
 
+-- and the reserved ones are those that they were
 pub reserved-stay : (p : Plan) (s : State) → Good p s → (xs : List Event) (k : ℕ) → (s .frame k ≡ Reserved → run p s xs .frame k ≡ Reserved) × (run p s xs .frame k ≡ Reserved → s .frame k ≡ Reserved)
 reserved-stay p s g xs k = let h = run-good p s xs g in (same-reserved p k s g (run p s xs) h, same-reserved p k (run p s xs) h s g)

@@ -21,6 +21,8 @@ use Rattle.machine.specs.declared.Request.{Request}
 use Rattle.machine.specs.declared.Request.the-variants.{AddZone, RemoveZone, RemoveZoneWhole, Insert, Remove, Translate, Alloc, AllocContiguous, Dealloc, DeallocContiguous}
 use Rattle.machine.specs.State.{Plan, State, Outcome, isFree, isMine, withPresent, change, withSet, taken, gone, freed, addressOf}
 use Rattle.machine.specs.Step.{machineOf, givens, fits, takes, firstOther, gives, isEmpty, present, absent, act, step}
+use Rattle.machine.specs.declared.Answer.{Answer}
+use Rattle.machine.specs.Lists.{Call, Call.One, Call.All, isDone, Tried, Tried.Through, Tried.Halted, before, tries, allOrNone, call}
 use Rattle.machine.specs.Run.{Event, Event.Asks, Event.Writes, written, after, run, start}
 use Rattle.machine.specs.Good.{PlanOk, given, SetGood, Good}
 use Rattle.machine.proofs.Frames.{mine-is, is-mine, free-not-owned, owned-once, run-free, before-other}
@@ -251,8 +253,22 @@ owner-writes p s m j v g =
     go i e true h = at-cases (λ x y. s .frame (x / 512) ≡ Free → y ≡ 0) (s .word) j v (λ f. absurd (free-not-owned m (sym f ∙ mine-is m (s .frame (j / 512)) (both-right (s .present m) (isMine m (s .frame (j / 512))) h)))) (λ x d f. g .cleared x f) i e
     go i e false h = g .cleared i e
 
+-- So does a list, done or not.
+tries-good : (p : Plan) (s t : State) (number : ℕ) (qs : List Request) → Good p s → Good p t → Good p (allOrNone s (tries p t number qs) .state)
+tries-good p s t number [] g h = h
+tries-good p s t number (q ∷ qs) g h =
+    by (λ (x : Tried). Good p (allOrNone s x .state)) (isDone (step p t number q .answer)) _ _ (λ e. later (step p t number q .answer) (tries p (step p t number q .state) number qs) (tries-good p s (step p t number q .state) number qs g (step-good p t number q h))) (λ e. g)
+  where
+    later : (a : Answer) (x : Tried) → Good p (allOrNone s x .state) → Good p (allOrNone s (before a x) .state)
+    later a (Through l s′) k = k
+    later a (Halted i why) k = k
+
+pub call-good : (p : Plan) (s : State) (number : ℕ) (c : Call) → Good p s → Good p (call p s number c .state)
+call-good p s number (One q) g = step-good p s number q g
+call-good p s number (All qs) g = tries-good p s s number qs g g
+
 pub after-good : (p : Plan) (s : State) (x : Event) → Good p s → Good p (after p s x)
-after-good p s (Asks number q) g = step-good p s number q g
+after-good p s (Asks number c) g = call-good p s number c g
 after-good p s (Writes m j v) g = owner-writes p s m j v g
 
 -- Every sequence of requests and writes keeps `Good`.

@@ -1,7 +1,7 @@
 -- A request of a machine leaves every other machine's presence, sets, frames and contents as they were. Assumes nothing.
 use mathlib.Core.Path.{_≡_, refl, sym, _∙_, ap}
 use mathlib.Core.Bool.{Bool, true, false}
-use mathlib.Core.List.{List, []}
+use mathlib.Core.List.{List, [], _∷_}
 use Prim.Native.Nat.{ℕ, _+_, _-_, _/_, _%_, _<_, _≤_}
 use lib.Dec.{eqb, ltb}
 use lib.ListN.{length}
@@ -17,12 +17,17 @@ use Rattle.machine.specs.declared.Request.{Request}
 use Rattle.machine.specs.declared.Request.the-variants.{AddZone, RemoveZone, RemoveZoneWhole, Insert, Remove, Translate, Alloc, AllocContiguous, Dealloc, DeallocContiguous}
 use Rattle.machine.specs.State.{Plan, State, Outcome, isFree, isMine, addressOf, withPresent, change, withSet, taken, gone, freed}
 use Rattle.machine.specs.Step.{machineOf, givens, fits, takes, firstOther, gives, isEmpty, present, absent, act, step}
+use Rattle.machine.specs.declared.Answer.{Answer}
+use Rattle.machine.specs.Lists.{Call, Call.One, Call.All, isDone, Tried, Tried.Through, Tried.Halted, before, tries, allOrNone, call}
 use Rattle.machine.specs.Run.{written}
 use Rattle.machine.specs.Parts.{Alike}
 use Rattle.machine.proofs.Frames.{free-no-one, is-mine, mine-once, run-free, before-other}
 
 pub alike-self : (m : ℕ) (s : State) → Alike m s s
 alike-self m s = record { present = refl; set = λ w. refl; mine = λ k. refl; words = λ j e. refl }
+
+pub alike-then : (m : ℕ) (a b c : State) → Alike m a b → Alike m b c → Alike m a c
+alike-then m a b c p q = record { present = p .present ∙ q .present; set = λ w. p .set w ∙ q .set w; mine = λ k. p .mine k ∙ q .mine k; words = λ j e. p .words j (q .mine (j / 512) ∙ e) ∙ q .words j e }
 
 module _ (p : Plan) (s : State) (m m′ : ℕ) (d : m′ ≡ m → ⊥) where
   abbrev Ok : Outcome → Type 0
@@ -129,6 +134,20 @@ unfolding step
 others-unchanged p s number q m′ d =
     let m = machineOf (p .config) number in
     by (λ (o : Outcome). Alike m′ (o .state) s) (ltb m (p .config .machines)) _ _ (λ e. act-other p s m m′ d q) (λ e. alike-self m′ s)
+
+-- So does a list, done or not.
+tries-unchanged : (p : Plan) (s t : State) (number : ℕ) (qs : List Request) (m′ : ℕ) → (m′ ≡ machineOf (p .config) number → ⊥) → Alike m′ t s → Alike m′ (allOrNone s (tries p t number qs) .state) s
+tries-unchanged p s t number [] m′ d h = h
+tries-unchanged p s t number (q ∷ qs) m′ d h =
+    by (λ (x : Tried). Alike m′ (allOrNone s x .state) s) (isDone (step p t number q .answer)) _ _ (λ e. later (step p t number q .answer) (tries p (step p t number q .state) number qs) (tries-unchanged p s (step p t number q .state) number qs m′ d (alike-then m′ (step p t number q .state) t s (others-unchanged p t number q m′ d) h))) (λ e. alike-self m′ s)
+  where
+    later : (a : Answer) (x : Tried) → Alike m′ (allOrNone s x .state) s → Alike m′ (allOrNone s (before a x) .state) s
+    later a (Through l s′) k = k
+    later a (Halted i why) k = k
+
+pub calls-unchanged : (p : Plan) (s : State) (number : ℕ) (c : Call) (m′ : ℕ) → (m′ ≡ machineOf (p .config) number → ⊥) → Alike m′ (call p s number c .state) s
+calls-unchanged p s number (One q) m′ d = others-unchanged p s number q m′ d
+calls-unchanged p s number (All qs) m′ d = tries-unchanged p s s number qs m′ d (alike-self m′ s)
 
 -- So does a machine's write.
 pub writes-own : (s : State) (m j v m′ : ℕ) → (m′ ≡ m → ⊥) → Alike m′ (written s m j v) s

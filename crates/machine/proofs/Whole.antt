@@ -20,6 +20,7 @@ use Rattle.machine.specs.declared.Request.the-variants.{RemoveZoneWhole,
 use Rattle.machine.specs.declared.Answer.{Answer}
 use Rattle.machine.specs.State.{Plan, State, Outcome, addressOf}
 use Rattle.machine.specs.Step.{machineOf, present, step}
+use Rattle.machine.specs.Lists.{Call.One}
 use Rattle.machine.specs.Run.{Event, Event.Asks, run, start}
 use Rattle.machine.specs.Good.{Good}
 use Rattle.machine.proofs.Keeps.{owned-usable, step-good}
@@ -34,7 +35,7 @@ machine-back c ok m l = lowest-is (λ k. eqb (c .number k) (c .number m)) (c .ma
 -- every machine below n is removed whole, from the last to the first
 abbrev pub wholes : Plan → ℕ → List Event
 wholes p zero = []
-wholes p (suc n) = Asks (p .config .number n) RemoveZoneWhole ∷ wholes p n
+wholes p (suc n) = Asks (p .config .number n) (One RemoveZoneWhole) ∷ wholes p n
 
 -- no machine is there, no set has a region, and the frames are those of the start, free ones all 0
 pub record GivenBack (p : Plan) (s : State) : Type 0 where
@@ -82,7 +83,7 @@ given-back-from p (suc n) l s g away =
     split m (yes q) = inr q
     split m (no d) = inl d
 
--- From any state, removing every machine whole gives the start's presence, sets and frames, every free frame all 0.
+-- From any state that is `Good`, removing every machine whole gives the start's presence, sets and frames, every free frame all 0.
 pub given-back : (p : Plan) (s : State) → Good p s → GivenBack p (run p s (wholes p (p .config .machines)))
 given-back p s g = given-back-from p (p .config .machines) (omega arith) s g (λ m h. absent m h (s .present m) refl)
   where

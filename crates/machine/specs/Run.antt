@@ -5,13 +5,12 @@ use Prim.Native.Nat.{ℕ, _/_}
 use lib.Dec.{ltb}
 use Rattle.base.specs.Choices.{pick, both, at}
 use Rattle.owners.specs.States.{State.Free, State.Reserved}
-use Rattle.machine.specs.declared.Request.{Request}
 use Rattle.machine.specs.State.{Plan, State, isMine}
-use Rattle.machine.specs.Step.{step}
+use Rattle.machine.specs.Lists.{Call, call}
 
--- a request of the machine that has a number, or that machine m writes a word of the frames
+-- a request or a list of them, of the machine that has a number; or that machine m writes a word of the frames
 pub data Event : Type 0 where
-  Asks : ℕ → Request → Event
+  Asks : ℕ → Call → Event
   Writes : ℕ → ℕ → ℕ → Event
 
 -- the state with the word j written by machine m, if m is there and owns its frame; nothing else can be written
@@ -20,7 +19,7 @@ written s m j v = record { present = s .present; set = s .set; frame = s .frame;
 
 -- the state after an event
 abbrev pub after : Plan → State → Event → State
-after p s (Asks number q) = step p s number q .state
+after p s (Asks number c) = call p s number c .state
 after p s (Writes m j v) = written s m j v
 
 -- the state after a sequence of events, in their order

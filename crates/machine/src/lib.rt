@@ -1,6 +1,6 @@
 // The abstract machine: what a state is, what a request of a machine does to it and is answered, and the
 // theorems that hold of every sequence of requests. There is no code here but the requests and answers:
-// the definitions are in specs/ and the theorems in proofs/. hv_mem does what `step` says, in memory.
+// the definitions are in specs/ and the theorems in proofs/. The crates hv_* do what `step` says, in memory.
 use address::Region;
 
 // Which of a machine's two sets of regions.

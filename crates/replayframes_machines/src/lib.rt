@@ -3,8 +3,9 @@
 // machines' words, the tree, the owners and the frames' own words. The machine that asks is named by its
 // number.
 //
-// Each answers 0 or a reason, the first that applies, and a refusal leaves every word and byte, and what
-// stands behind the last pointer. Nothing is demanded of the caller beyond the types.
+// Each answers 0 or a reason, which is the first that applies where the memories are sound, and a refusal
+// leaves every word and byte, and what stands behind the last pointer. Nothing is demanded of the caller
+// beyond the types.
 ghost use mathlib.Core.Path.{_≡_};
 ghost use Rattle.machine.specs.declared.Which.the-variants.{Processors, Devices};
 ghost use Rattle.machine.specs.declared.Request.the-variants.{AddZone, RemoveZone, RemoveZoneWhole, Insert, Remove, Alloc, AllocContiguous, Dealloc, DeallocContiguous};
