@@ -3,7 +3,7 @@ use mathlib.Core.Path.{_≡_, refl, sym, _∙_, ap, subst}
 use mathlib.Core.Bool.{Bool, true, false, not}
 use mathlib.Core.List.{List}
 use Prim.Native.Nat.{ℕ, _+_, _*_, _<_, _≤_}
-use lib.ListN.{length, getD}
+use lib.ListN.{length}
 use native.Mathlib.Decide.{decLt}
 use native.Mathlib.Omega.{arith}
 use Rattle.base.specs.Search.{Stops}
@@ -34,7 +34,7 @@ bare-is z place slots at w v e f = ap (λ (x : ℕ). none (regionsIn z x slots))
 -- a set that lies within the words and is in order can be read
 pub no-set : (z : List ℕ) (place slots at : ℕ) (w : Which) (why : Bad) → place + (3 + 8 * slots) ≤ length z → at ≡ setAt place slots w → BadSays z at slots why → ((v : Which) → SetOk z (setAt place slots v) slots) → ⊥
 no-set z place slots at w Bad.NoSet l e b ok = b (let h = set-high place slots w in omega arith)
-no-set z place slots at w Bad.Corrupt l e b ok = let f = ok w .few in let g = subst (λ (x : ℕ). slots < getD z x 0) e (b .1) in omega arith
+no-set z place slots at w Bad.Corrupt l e b ok = b .broken (subst (λ (x : ℕ). SetOk z x slots) (sym e) (ok w))
 
 -- neither set has a region where neither is told to, and one has where it is told to
 pub no-first : (a b : Bool) → a ≡ false → both a b ≡ false

@@ -22,7 +22,7 @@ use Rattle.hv_state.specs.Serving.{Served, mem}
 use Rattle.hv_state.proofs.Serving.{unsound}
 use Rattle.hv_sets.specs.declared.Spot.{Spot}
 use Rattle.hv_sets.specs.Asked.{IsSpot, ofNotInserted}
-use Rattle.hv_sets.proofs.Laws.{as-set, no-set, not-inserted, inserted, not-there, removed, translated, untranslated, astray}
+use Rattle.hv_sets.proofs.Laws.{as-set, no-set, not-inserted, inserted, not-there, removed, translated, untranslated}
 
 module _ (t z : List ℕ) (number : ℕ) (w : Which) (spot : Spot) (is : IsSpot t z number w spot) where
   -- a request that is refused and leaves the machines' words
@@ -58,5 +58,5 @@ module _ (t z : List ℕ) (number : ℕ) (w : Which) (spot : Spot) (is : IsSpot 
   pub host-none : (tr o v : List ℕ) (addr : ℕ) → TranslateSays z (spot .at) (spot .slots) addr Translation.NotMapped → Served (mem t z tr o v) number (Translate w addr) (mem t z tr o v) (Answer.No Reason.NotMapped)
   host-none tr o v addr d = untranslated t z number w spot is tr o v addr (as-set t z number w spot is (λ at slots. TranslateSays z at slots addr Translation.NotMapped) d)
 
-  pub host-astray : (tr o v : List ℕ) (addr : ℕ) (why : Bad) → TranslateSays z (spot .at) (spot .slots) addr (Translation.Bad why) → Served (mem t z tr o v) number (Translate w addr) (mem t z tr o v) Answer.Corrupt
-  host-astray tr o v addr why d = astray t z number w spot is tr o v addr why (as-set t z number w spot is (λ at slots. TranslateSays z at slots addr (Translation.Bad why)) d)
+  pub host-bad : (tr o v : List ℕ) (addr : ℕ) (why : Bad) → TranslateSays z (spot .at) (spot .slots) addr (Translation.Bad why) → Served (mem t z tr o v) number (Translate w addr) (mem t z tr o v) Answer.Corrupt
+  host-bad tr o v addr why d = no-set t z number w spot is tr o v (Translate w addr) why (as-set t z number w spot is (λ at slots. TranslateSays z at slots addr (Translation.Bad why)) d)

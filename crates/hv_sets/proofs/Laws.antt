@@ -64,7 +64,7 @@ module _ (t z : List ℕ) (number : ℕ) (w : Which) (spot : Spot) (is : IsSpot 
   -- sound memories have a set there
   pub no-set : (tr o w′ : List ℕ) (q : Request) (why : Bad) → BadSays z (setPlace z (tableConfig t .machines) (machineOf (tableConfig t) number) w) (slotsIn z (tableConfig t .machines)) why → Served (mem t z tr o w′) number q (mem t z tr o w′) Answer.Corrupt
   no-set tr o w′ q Bad.NoSet b = unsound (mem t z tr o w′) number q Answer.Corrupt (λ s. b (is .lies))
-  no-set tr o w′ q Bad.Corrupt b = unsound (mem t z tr o w′) number q Answer.Corrupt (λ s. let f = s .zones .sets (machineOf (tableConfig t) number) (is .here .machine) w .few in let l = b .1 in omega arith)
+  no-set tr o w′ q Bad.Corrupt b = unsound (mem t z tr o w′) number q Answer.Corrupt (λ s. b .broken (s .zones .sets (machineOf (tableConfig t) number) (is .here .machine) w))
 
   -- as many regions as the count says
   long : Readable z (setPlace z (tableConfig t .machines) (machineOf (tableConfig t) number) w) (slotsIn z (tableConfig t .machines)) → length (setIn z (tableConfig t .machines) (machineOf (tableConfig t) number) w) ≡ getD z (setPlace z (tableConfig t .machines) (machineOf (tableConfig t) number) w) 0
@@ -115,13 +115,13 @@ module _ (t z : List ℕ) (number : ℕ) (w : Which) (spot : Spot) (is : IsSpot 
       not-inserted tr o w′ NotInserted.NoRoom d =
           refuses (mem t z tr o w′) number (Insert w r) (Answer.No Reason.NoRoom)
           (λ s. of-present (planOf (mem t z tr o w′)) (decode (mem t z tr o w′)) number (Insert w r) (is .here .machine) (is .here .present)
-          ∙ set-full (planOf (mem t z tr o w′)) (decode (mem t z tr o w′)) (machineOf (tableConfig t) number) w r is-given (sym (ap (any (meets r)) means) ∙ d .0 .alone) (let e = long (d .0 .readable) in let f = d .1 in omega arith))
+          ∙ set-full (planOf (mem t z tr o w′)) (decode (mem t z tr o w′)) (machineOf (tableConfig t) number) w r is-given (sym (ap (any (meets r)) means) ∙ d .0 .alone) (let e = long (d .0 .sorted .readable) in let f = d .1 in omega arith))
 
       pub inserted : (tr o w′ z′ : List ℕ) → WentIn z (setPlace z (tableConfig t .machines) (machineOf (tableConfig t) number) w) (slotsIn z (tableConfig t .machines)) r z′ → Served (mem t z tr o w′) number (Insert w r) (mem t z′ tr o w′) Answer.Done
       inserted tr o w′ z′ d =
           set-served tr o w′ z′ (Insert w r) (enter r (setIn z (tableConfig t .machines) (machineOf (tableConfig t) number) w)) (subst (λ (l : List Region). Became z (setPlace z (tableConfig t .machines) (machineOf (tableConfig t) number) w) (slotsIn z (tableConfig t .machines)) (enter r l) z′) means (d .became))
           (λ s. of-present (planOf (mem t z tr o w′)) (decode (mem t z tr o w′)) number (Insert w r) (is .here .machine) (is .here .present)
-          ∙ enters-set (planOf (mem t z tr o w′)) (decode (mem t z tr o w′)) (machineOf (tableConfig t) number) w r is-given (sym (ap (any (meets r)) means) ∙ d .fitting .alone) (let e = long (d .fitting .readable) in let f = d .room in omega arith))
+          ∙ enters-set (planOf (mem t z tr o w′)) (decode (mem t z tr o w′)) (machineOf (tableConfig t) number) w r is-given (sym (ap (any (meets r)) means) ∙ d .fitting .alone) (let e = long (d .fitting .sorted .readable) in let f = d .room in omega arith))
 
     -- ---- a region goes out
 
@@ -155,7 +155,3 @@ module _ (t z : List ℕ) (number : ℕ) (w : Which) (spot : Spot) (is : IsSpot 
       refuses (mem t z tr o w′) number (Translate w addr) (Answer.No Reason.NotMapped)
       (λ s. of-present (planOf (mem t z tr o w′)) (decode (mem t z tr o w′)) number (Translate w addr) (is .here .machine) (is .here .present)
       ∙ not-mapped (decode (mem t z tr o w′)) (machineOf (tableConfig t) number) w addr (sym (ap (any (covers addr)) means) ∙ d .1))
-
-  pub astray : (tr o w′ : List ℕ) (addr : ℕ) (why : Bad) → TranslateSays z (setPlace z (tableConfig t .machines) (machineOf (tableConfig t) number) w) (slotsIn z (tableConfig t .machines)) addr (Translation.Bad why) → Served (mem t z tr o w′) number (Translate w addr) (mem t z tr o w′) Answer.Corrupt
-  astray tr o w′ addr Bad.NoSet d = unsound (mem t z tr o w′) number (Translate w addr) Answer.Corrupt (λ s. d (is .lies))
-  astray tr o w′ addr Bad.Corrupt d = unsound (mem t z tr o w′) number (Translate w addr) Answer.Corrupt (λ s. d .broken (s .zones .sets (machineOf (tableConfig t) number) (is .here .machine) w))

@@ -7,21 +7,16 @@ use lib.ListN.{getD}
 use native.Mathlib.Omega.{arith}
 use Rattle.base.proofs.Choices.{not-failed}
 use Rattle.base.specs.Search.{Stops}
-use Rattle.base.proofs.Says.{told}
 use Rattle.address.specs.declared.Region.{Region}
 use Rattle.address.specs.Pages.{Contains}
 use Rattle.address.specs.Regions.{Valid, hostOf}
 use Rattle.address.proofs.Theorems.{host-fits}
-use Rattle.set_model.specs.Sets.{covers, table, Ordered, none}
+use Rattle.set_model.specs.Sets.{covers, table, none}
 use Rattle.set_model.proofs.Tests.{covers-contains}
-use Rattle.set_slots.specs.Slots.{slot, regionsIn, Readable, Fails, Empty, UsedOk, SetOk}
+use Rattle.set_slots.specs.Slots.{slot, regionsIn, Readable, Fails, Empty, UsedOk, Sorted, SetOk}
 use Rattle.set_slots.proofs.Found.{regions-are, some-found, found-is}
-use Rattle.set_slots.proofs.Order.{valid-in, set-is-ok, used-in-set}
-use Rattle.set_claims.specs.declared.Bad.{Bad}
-use Rattle.set_claims.specs.declared.Size.{Size}
-use Rattle.set_claims.specs.Claims.{BadSays, SizeSays}
-use Rattle.memory_set.specs.Looks.{hostIn, Reaches, Astray, FirstWrong, TranslateSays}
-use Rattle.memory_set.specs.declared.Translation.{Translation}
+use Rattle.set_slots.proofs.Order.{set-is-ok, used-in-set}
+use Rattle.memory_set.specs.Looks.{hostIn, Reaches, FirstWrong}
 
 -- ---- whether there are regions
 
@@ -40,36 +35,20 @@ none-no {z} {at} {slots} {n} d e q = rw (regions-are d e) (go n q)
 -- ---- translation
 
 -- the host address by the region in the slot that was found
-module _ {z : List ℕ} {at slots n i : ℕ} (addr : ℕ) {r : Region} (d : Readable z at slots) (e : n ≡ getD z at 0) (s : Stops (Fails (covers addr) z at) 0 n i) (l : i < n) (g : r ≡ slot z at i) where
+module _ {z : List ℕ} {at slots n i : ℕ} (addr : ℕ) {r : Region} (d : Sorted z at slots) (e : n ≡ getD z at 0) (s : Stops (Fails (covers addr) z at) 0 n i) (l : i < n) (g : r ≡ slot z at i) where
   by-region : hostOf (r .guest) (r .host) addr ≡ hostIn (regionsIn z at slots) addr
-  by-region = ap (λ (x : Region). hostOf (x .guest) (x .host) addr) (g ∙ sym (found-is (covers addr) i d e s l))
+  by-region = ap (λ (x : Region). hostOf (x .guest) (x .host) addr) (g ∙ sym (found-is (covers addr) i (d .readable) e s l))
 
   pub reaches : {h : ℕ} → h ≡ hostOf (r .guest) (r .host) addr → Reaches z at slots addr h
-  reaches q = record { readable = d; covered = some-found (covers addr) i d e s l; is = q ∙ by-region }
+  reaches q = record { sorted = d; covered = some-found (covers addr) i (d .readable) e s l; is = q ∙ by-region }
 
   -- the region has the address
   pub has-it : Contains (r .guest) (r .pages) addr
   has-it = covers-contains addr r (ap (covers addr) g ∙ not-failed (covers addr (slot z at i)) (s .fails l))
 
-  -- of a set in order its host address fits 64 bits
-  pub astray : 2 ^ 64 ≤ hostOf (r .guest) (r .host) addr → Astray z at slots addr
-  astray b =
-      record {
-        lies = d .lies;
-        beyond = λ few. (some-found (covers addr) i d e s l, rw (← by-region) b);
-        broken = λ ok. broken (host-fits (subst (λ (x : Region). Valid (x .guest) (x .host) (x .pages)) (sym g) (valid-in (slot z at) n i (subst Ordered (regions-are d e) (ok .ordered)) l)) has-it);
-      }
-    where
-      broken : hostOf (r .guest) (r .host) addr < 2 ^ 64 → ⊥
-      broken h = omega arith
-
--- where there is no set there is no host address
-pub translate-bad : (z : List ℕ) (at slots addr : ℕ) {s : Size} {why : Bad} → s ≡ Size.No why → SizeSays z at slots s → TranslateSays z at slots addr (Translation.Bad why)
-translate-bad z at slots addr {why = why} e b = go why (told (SizeSays z at slots) e b)
-  where
-    go : (why : Bad) → BadSays z at slots why → TranslateSays z at slots addr (Translation.Bad why)
-    go Bad.NoSet b = b
-    go Bad.Corrupt b = let l = b .1 in record { lies = b .0; beyond = λ few. absurd (omega arith); broken = λ ok. let few = ok .few in omega arith }
+  -- and its host address fits 64 bits
+  pub not-beyond : 2 ^ 64 ≤ hostOf (r .guest) (r .host) addr → ⊥
+  not-beyond b = let h = host-fits (subst (λ (x : Region). Valid (x .guest) (x .host) (x .pages)) (sym g) (d .right i (omega arith) .valid)) has-it in omega arith
 
 -- ---- order
 

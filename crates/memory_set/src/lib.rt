@@ -21,7 +21,6 @@ pub enum Translation {
     Host(u64),
     // No region has the guest address.
     NotMapped,
-    // Corrupt also where the region that has it leads beyond 2^64 - 1.
     Bad(Bad),
 }
 
@@ -104,7 +103,7 @@ pub fn translate(words: &[u64], at: usize, slots: usize, addr: u64) -> Translati
 pub fn check(words: &[u64], at: usize, slots: usize) -> Checked
     ensures { λ a. ⌜ CheckSays (now (words .entry)) at slots a ⌝ }
 {
-    match set_claims::count(words, at, slots) {
+    match set_claims::counted(words, at, slots) {
         Size::No(bad) => Checked::Bad(bad),
         Size::Is(n) => {
             let i = set_slots::first_wrong(words, at, n);

@@ -8,7 +8,7 @@ use Rattle.memory_set.specs.Looks.{TranslateSays}
 use Rattle.hv_state.proofs.Serving.{unsound}
 use Rattle.hv_asker.proofs.Laws.{disordered, unasked}
 use Rattle.hv_sets.specs.Asked.{AskedSays}
-use Rattle.hv_regions.proofs.Laws.{host-found, host-none, host-astray}
+use Rattle.hv_regions.proofs.Laws.{host-found, host-none, host-bad}
 
 set-that-is-asked-requires : tie.Need-set-that-is-asked-requires
 set-that-is-asked-requires c κs = search needs
@@ -47,7 +47,7 @@ returns-4 : tie.Need-returns-4
 returns-4 c = λ t o w. host-none _ _ _ _ _ (told (AskedSays _ _ _ _) (c .before .before .before .before .spot .given .1) (c .before .before .before .before .before .before .set-that-is-asked .ensures)) t o w _ (told (TranslateSays _ _ _ _) (c .enum-told2 .given .1) (c .before .before .translate .ensures))
 
 returns-5 : tie.Need-returns-5
-returns-5 c = λ t o w. host-astray _ _ _ _ _ (told (AskedSays _ _ _ _) (c .before .before .before .before .spot .given .1) (c .before .before .before .before .before .before .set-that-is-asked .ensures)) t o w _ (c .enum-told3 .given .0 .0) (told (TranslateSays _ _ _ _) (c .enum-told3 .given .1) (c .before .before .translate .ensures))
+returns-5 c = λ t o w. host-bad _ _ _ _ _ (told (AskedSays _ _ _ _) (c .before .before .before .before .spot .given .1) (c .before .before .before .before .before .before .set-that-is-asked .ensures)) t o w _ (c .enum-told3 .given .0 .0) (told (TranslateSays _ _ _ _) (c .enum-told3 .given .1) (c .before .before .translate .ensures))
 
 pub translate-spec : {M : Type 1} → statement M
 translate-spec =

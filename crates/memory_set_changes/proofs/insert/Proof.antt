@@ -21,31 +21,31 @@ enum-known-n : tie.Need-enum-known-n
 enum-known-n c = search needs
 
 first-above-requires : tie.Need-first-above-requires
-first-above-requires c κs = let x = told (MayInsertSays _ _ _ _) (c .before .before .n .given .1) (c .before .before .before .before .may-insert .ensures) in let l = lies-used (x .0 .readable) (x .1) in omega arith
+first-above-requires c κs = let x = told (MayInsertSays _ _ _ _) (c .before .before .n .given .1) (c .before .before .before .before .may-insert .ensures) in let l = lies-used (x .0 .sorted .readable) (x .1) in omega arith
 
 shift-up-requires : tie.Need-shift-up-requires
-shift-up-requires c κs = let x = told (MayInsertSays _ _ _ _) (c .before .before .before .before .n .given .1) (c .before .before .before .before .before .before .may-insert .ensures) in let l = x .0 .readable .lies in let f = x .2 in let h = c .before .first-above .ensures .high in (omega arith, omega arith)
+shift-up-requires c κs = let x = told (MayInsertSays _ _ _ _) (c .before .before .before .before .n .given .1) (c .before .before .before .before .before .before .may-insert .ensures) in let l = x .0 .sorted .readable .lies in let f = x .2 in let h = c .before .first-above .ensures .high in (omega arith, omega arith)
 
 add-put : tie.Need-add-put
-add-put c = let x = told (MayInsertSays _ _ _ _) (c .before .before .before .before .before .before .before .before .n .given .1) (c .before .before .before .before .before .before .before .before .before .before .may-insert .ensures) in let l = x .0 .readable .lies in let f = x .2 in let h = c .before .before .before .before .before .first-above .ensures .high in omega arith
+add-put c = let x = told (MayInsertSays _ _ _ _) (c .before .before .before .before .before .before .before .before .n .given .1) (c .before .before .before .before .before .before .before .before .before .before .may-insert .ensures) in let l = x .0 .sorted .readable .lies in let f = x .2 in let h = c .before .before .before .before .before .first-above .ensures .high in omega arith
 
 mul-put : tie.Need-mul-put
-mul-put c = let x = told (MayInsertSays _ _ _ _) (c .before .before .before .before .before .before .before .before .n .given .1) (c .before .before .before .before .before .before .before .before .before .before .may-insert .ensures) in let l = x .0 .readable .lies in let f = x .2 in let h = c .before .before .before .before .before .first-above .ensures .high in omega arith
+mul-put c = let x = told (MayInsertSays _ _ _ _) (c .before .before .before .before .before .before .before .before .n .given .1) (c .before .before .before .before .before .before .before .before .before .before .may-insert .ensures) in let l = x .0 .sorted .readable .lies in let f = x .2 in let h = c .before .before .before .before .before .first-above .ensures .high in omega arith
 
 add-put-2 : tie.Need-add-put-2
-add-put-2 c = let x = told (MayInsertSays _ _ _ _) (c .before .before .before .before .before .before .before .before .n .given .1) (c .before .before .before .before .before .before .before .before .before .before .may-insert .ensures) in let l = x .0 .readable .lies in let f = x .2 in let h = c .before .before .before .before .before .first-above .ensures .high in omega arith
+add-put-2 c = let x = told (MayInsertSays _ _ _ _) (c .before .before .before .before .before .before .before .before .n .given .1) (c .before .before .before .before .before .before .before .before .before .before .may-insert .ensures) in let l = x .0 .sorted .readable .lies in let f = x .2 in let h = c .before .before .before .before .before .first-above .ensures .high in omega arith
 
 put-requires : tie.Need-put-requires
-put-requires c κs = let x = told (MayInsertSays _ _ _ _) (c .before .before .before .before .before .before .before .before .n .given .1) (c .before .before .before .before .before .before .before .before .before .before .may-insert .ensures) in let l = x .0 .readable .lies in let f = x .2 in let h = c .before .before .before .before .before .first-above .ensures .high in omega (arith, c .before .before .before .shift-up .ensures .only .long)
+put-requires c κs = let x = told (MayInsertSays _ _ _ _) (c .before .before .before .before .before .before .before .before .n .given .1) (c .before .before .before .before .before .before .before .before .before .before .may-insert .ensures) in let l = x .0 .sorted .readable .lies in let f = x .2 in let h = c .before .before .before .before .before .first-above .ensures .high in omega (arith, c .before .before .before .shift-up .ensures .only .long)
 
 add-words : tie.Need-add-words
-add-words c = let x = told (MayInsertSays _ _ _ _) (c .before .before .before .before .before .before .before .before .before .before .before .n .given .1) (c .before .before .before .before .before .before .before .before .before .before .before .before .before .may-insert .ensures) in let l = x .0 .readable .lies in let f = x .2 in let h = c .before .before .before .before .before .before .before .before .first-above .ensures .high in omega arith
+add-words c = let x = told (MayInsertSays _ _ _ _) (c .before .before .before .before .before .before .before .before .before .before .before .n .given .1) (c .before .before .before .before .before .before .before .before .before .before .before .before .before .may-insert .ensures) in let l = x .0 .sorted .readable .lies in let f = x .2 in let h = c .before .before .before .before .before .before .before .before .first-above .ensures .high in omega arith
 
 mul-words : tie.Need-mul-words
-mul-words c = let x = told (MayInsertSays _ _ _ _) (c .before .before .before .before .before .before .before .before .before .before .before .n .given .1) (c .before .before .before .before .before .before .before .before .before .before .before .before .before .may-insert .ensures) in let l = x .0 .readable .lies in let f = x .2 in let h = c .before .before .before .before .before .before .before .before .first-above .ensures .high in omega arith
+mul-words c = let x = told (MayInsertSays _ _ _ _) (c .before .before .before .before .before .before .before .before .before .before .before .n .given .1) (c .before .before .before .before .before .before .before .before .before .before .before .before .before .may-insert .ensures) in let l = x .0 .sorted .readable .lies in let f = x .2 in let h = c .before .before .before .before .before .before .before .before .first-above .ensures .high in omega arith
 
 slice-write-words : tie.Need-slice-write-words
-slice-write-words c = let x = told (MayInsertSays _ _ _ _) (c .before .before .before .before .before .before .before .before .before .before .before .n .given .1) (c .before .before .before .before .before .before .before .before .before .before .before .before .before .may-insert .ensures) in let l = x .0 .readable .lies in let f = x .2 in let h = c .before .before .before .before .before .before .before .before .first-above .ensures .high in omega (arith, c .before .before .put .ensures .long, c .before .before .before .before .before .before .shift-up .ensures .only .long)
+slice-write-words c = let x = told (MayInsertSays _ _ _ _) (c .before .before .before .before .before .before .before .before .before .before .before .n .given .1) (c .before .before .before .before .before .before .before .before .before .before .before .before .before .may-insert .ensures) in let l = x .0 .sorted .readable .lies in let f = x .2 in let h = c .before .before .before .before .before .before .before .before .first-above .ensures .high in omega (arith, c .before .before .put .ensures .long, c .before .before .before .before .before .before .shift-up .ensures .only .long)
 
 same-length : tie.Need-same-length
 same-length c = search needs
@@ -57,7 +57,7 @@ same-length-2 : tie.Need-same-length-2
 same-length-2 c = simp length-set (c .before .before .put .ensures .long ∙ c .before .before .before .before .before .before .shift-up .ensures .only .long)
 
 returns-2 : tie.Need-returns-2
-returns-2 c = let x = told (MayInsertSays _ _ _ _) (c .before .before .before .before .before .before .before .before .before .before .before .n .given .1) (c .before .before .before .before .before .before .before .before .before .before .before .before .before .may-insert .ensures) in record { fitting = x .0; room = omega (arith, x .1, x .2); became = inserted (x .0 .readable) (x .1) (x .2) (c .before .before .before .before .before .before .before .before .first-above .ensures) (c .before .before .before .before .before .before .shift-up .ensures) (c .before .before .put .ensures) (x .0 .valid) (x .0 .alone); maps = enter-maps _ _ }
+returns-2 c = let x = told (MayInsertSays _ _ _ _) (c .before .before .before .before .before .before .before .before .before .before .before .n .given .1) (c .before .before .before .before .before .before .before .before .before .before .before .before .before .may-insert .ensures) in record { fitting = x .0; room = omega (arith, x .1, x .2); became = inserted (x .0 .sorted .readable) (x .1) (x .2) (c .before .before .before .before .before .before .before .before .first-above .ensures) (c .before .before .before .before .before .before .shift-up .ensures) (c .before .before .put .ensures) (x .0 .valid) (x .0 .alone); maps = enter-maps _ _ }
 
 pub insert-spec : {M : Type 1} → statement M
 insert-spec =

@@ -20,19 +20,19 @@ enum-known-n : tie.Need-enum-known-n
 enum-known-n c = search needs
 
 first-same-requires : tie.Need-first-same-requires
-first-same-requires c κs = let x = told (SizeSays _ _ _) (c .before .before .n .given .1) (c .before .before .before .before .count .ensures) in let l = lies-used (x .0) (x .1) in omega arith
+first-same-requires c κs = let x = told (SizeSays _ _ _) (c .before .before .n .given .1) (c .before .before .before .before .count .ensures) in let l = lies-used (x .0 .readable) (x .1) in omega arith
 
 same-length : tie.Need-same-length
 same-length c = search needs
 
 returns : tie.Need-returns
-returns c = let x = told (SizeSays _ _ _) (c .before .before .before .before .n .given .1) (c .before .before .before .before .before .before .count .ensures) in (refl, x .0, none-found (same (c .before .before .before .before .before .before .before .before .before .args .r)) (c .before .first-same .result) (x .0) (x .1) (c .before .first-same .ensures) (omega (arith, c .if1 .taken)))
+returns c = let x = told (SizeSays _ _ _) (c .before .before .before .before .n .given .1) (c .before .before .before .before .before .before .count .ensures) in (refl, x .0, none-found (same (c .before .before .before .before .before .before .before .before .before .args .r)) (c .before .first-same .result) (x .0 .readable) (x .1) (c .before .first-same .ensures) (omega (arith, c .if1 .taken)))
 
 sub-take-out : tie.Need-sub-take-out
 sub-take-out c = search needs
 
 take-out-requires : tie.Need-take-out-requires
-take-out-requires c κs = let x = told (SizeSays _ _ _) (c .before .before .before .before .before .n .given .1) (c .before .before .before .before .before .before .before .count .ensures) in let l = lies-used (x .0) (x .1) in (omega (arith, c .before .if1 .left), omega (arith, c .before .if1 .left), omega (arith, c .before .if1 .left, x .1))
+take-out-requires c κs = let x = told (SizeSays _ _ _) (c .before .before .before .before .before .n .given .1) (c .before .before .before .before .before .before .before .count .ensures) in let l = lies-used (x .0 .readable) (x .1) in (omega (arith, c .before .if1 .left), omega (arith, c .before .if1 .left), omega (arith, c .before .if1 .left, x .1))
 
 same-length-2 : tie.Need-same-length-2
 same-length-2 c = search needs
@@ -44,7 +44,7 @@ same-length-3 : tie.Need-same-length-3
 same-length-3 c = c .before .before .take-out .ensures .long
 
 returns-3 : tie.Need-returns-3
-returns-3 c = let x = told (SizeSays _ _ _) (c .before .before .before .before .before .before .before .before .n .given .1) (c .before .before .before .before .before .before .before .before .before .before .count .ensures) in went-out (same (c .before .before .before .before .before .before .before .before .before .before .before .before .before .args .r)) (x .0) (x .1) (c .before .before .before .before .before .first-same .ensures) (omega (arith, c .before .before .before .before .if1 .left)) (same-found (c .before .before .before .before .before .before .before .before .before .before .before .before .before .args .r) (x .0) (x .1) (c .before .before .before .before .before .first-same .ensures) (omega (arith, c .before .before .before .before .if1 .left))) (c .before .before .take-out .ensures)
+returns-3 c = let x = told (SizeSays _ _ _) (c .before .before .before .before .before .before .before .before .n .given .1) (c .before .before .before .before .before .before .before .before .before .before .count .ensures) in went-out (same (c .before .before .before .before .before .before .before .before .before .before .before .before .before .args .r)) (x .0) (x .1) (c .before .before .before .before .before .first-same .ensures) (omega (arith, c .before .before .before .before .if1 .left)) (same-found (c .before .before .before .before .before .before .before .before .before .before .before .before .before .args .r) (x .0 .readable) (x .1) (c .before .before .before .before .before .first-same .ensures) (omega (arith, c .before .before .before .before .if1 .left))) (c .before .before .take-out .ensures)
 
 pub remove-spec : {M : Type 1} → statement M
 remove-spec =
