@@ -20,6 +20,7 @@ ARCHIVES = [
     "replayframes_config",
     "replayframes_machines",
     "replayframes_start",
+    "replayframes_calls",
 ]
 
 # The quick comparison takes about a minute; one that does not end is a failure.

@@ -4,7 +4,7 @@ use std::fs;
 use std::path::{Path, PathBuf};
 
 /// The crates whose archives are linked.
-const ARCHIVES: [&str; 7] = [
+const ARCHIVES: [&str; 8] = [
     "replayframes",
     "replayframes_looks",
     "replayframes_allocator",
@@ -12,6 +12,7 @@ const ARCHIVES: [&str; 7] = [
     "replayframes_config",
     "replayframes_machines",
     "replayframes_start",
+    "replayframes_calls",
 ];
 
 /// A folder that cargo names.

@@ -146,6 +146,22 @@ poolTooLarge = 60
 abbrev pub framesTooMany : ℕ
 framesTooMany = 61
 
+-- the bytes of a request mean no request
+abbrev pub malformed : ℕ
+malformed = 62
+
+-- the bytes are no sequence of calls
+abbrev pub broken : ℕ
+broken = 63
+
+-- the memory lent for replies or answers has too few words
+abbrev pub fewWords : ℕ
+fewWords = 64
+
+-- the spare memory is not as long as the memory that it is to hold
+abbrev pub badSpare : ℕ
+badSpare = 65
+
 -- r is the code of an answer that says what is so
 pub record Coded {A : Type 0} (Says : A → Type 0) (code : A → ℕ) (r : ℕ) : Type 0 where
   pub answer : A

@@ -72,3 +72,11 @@ pub const RF_FEW_SLOTS: u32 = 59;
 pub const RF_POOL_TOO_LARGE: u32 = 60;
 // More frames have contents than the allocator's region has pages.
 pub const RF_FRAMES_TOO_MANY: u32 = 61;
+// The bytes of a request mean no request.
+pub const RF_MALFORMED: u32 = 62;
+// The bytes are no sequence of calls.
+pub const RF_BROKEN: u32 = 63;
+// The memory lent for replies or answers has too few words.
+pub const RF_FEW_WORDS: u32 = 64;
+// The spare memory is not as long as the memory that it is to hold.
+pub const RF_SPARE: u32 = 65;

@@ -16,8 +16,7 @@ use Rattle.set_model.proofs.Tests.{same-equal}
 use Rattle.set_slots.specs.Slots.{slot, regionsIn, Lies, SetOk}
 use Rattle.set_slots.proofs.Found.{regions-are}
 use Rattle.set_claims.specs.declared.Bad.{Bad}
-use Rattle.set_claims.specs.Claims.{CountedSays}
-use Rattle.set_claims.specs.declared.Size.{Size}
+use Rattle.set_claims.specs.Claims.{BadSays}
 use Rattle.machine.specs.declared.Which.{Which}
 use Rattle.machine.specs.declared.Which.the-variants.{Processors, Devices}
 use Rattle.machine.specs.Good.{given}
@@ -97,6 +96,6 @@ pub wrong-order : (c : Config) (z : List ℕ) (m flag at slots here : ℕ) (w : 
 wrong-order c z m flag at slots here w place n h = n (subst (λ (x : ℕ). SetOk z x slots) (sym place) (h .ok))
 
 -- one whose words are there, and whose count is too high
-pub wrong-count : (z : List ℕ) (at slots : ℕ) (why : Bad) → Lies z at slots → CountedSays z at slots (Size.No why) → SetOk z at slots → ⊥
+pub wrong-count : (z : List ℕ) (at slots : ℕ) (why : Bad) → Lies z at slots → BadSays z at slots why → SetOk z at slots → ⊥
 wrong-count z at slots Bad.NoSet lies n h = n lies
-wrong-count z at slots Bad.Corrupt lies n h = let a = n .1 in let b = h .few in omega arith
+wrong-count z at slots Bad.Corrupt lies n h = n .broken h

@@ -115,13 +115,13 @@ module _ (t z : List ℕ) (number : ℕ) (w : Which) (spot : Spot) (is : IsSpot 
       not-inserted tr o w′ NotInserted.NoRoom d =
           refuses (mem t z tr o w′) number (Insert w r) (Answer.No Reason.NoRoom)
           (λ s. of-present (planOf (mem t z tr o w′)) (decode (mem t z tr o w′)) number (Insert w r) (is .here .machine) (is .here .present)
-          ∙ set-full (planOf (mem t z tr o w′)) (decode (mem t z tr o w′)) (machineOf (tableConfig t) number) w r is-given (sym (ap (any (meets r)) means) ∙ d .0 .alone) (let e = long (d .0 .sorted .readable) in let f = d .1 in omega arith))
+          ∙ set-full (planOf (mem t z tr o w′)) (decode (mem t z tr o w′)) (machineOf (tableConfig t) number) w r is-given (sym (ap (any (meets r)) means) ∙ d .0 .alone) (let e = long (d .0 .readable) in let f = d .1 in omega arith))
 
       pub inserted : (tr o w′ z′ : List ℕ) → WentIn z (setPlace z (tableConfig t .machines) (machineOf (tableConfig t) number) w) (slotsIn z (tableConfig t .machines)) r z′ → Served (mem t z tr o w′) number (Insert w r) (mem t z′ tr o w′) Answer.Done
       inserted tr o w′ z′ d =
           set-served tr o w′ z′ (Insert w r) (enter r (setIn z (tableConfig t .machines) (machineOf (tableConfig t) number) w)) (subst (λ (l : List Region). Became z (setPlace z (tableConfig t .machines) (machineOf (tableConfig t) number) w) (slotsIn z (tableConfig t .machines)) (enter r l) z′) means (d .became))
           (λ s. of-present (planOf (mem t z tr o w′)) (decode (mem t z tr o w′)) number (Insert w r) (is .here .machine) (is .here .present)
-          ∙ enters-set (planOf (mem t z tr o w′)) (decode (mem t z tr o w′)) (machineOf (tableConfig t) number) w r is-given (sym (ap (any (meets r)) means) ∙ d .fitting .alone) (let e = long (d .fitting .sorted .readable) in let f = d .room in omega arith))
+          ∙ enters-set (planOf (mem t z tr o w′)) (decode (mem t z tr o w′)) (machineOf (tableConfig t) number) w r is-given (sym (ap (any (meets r)) means) ∙ d .fitting .alone) (let e = long (d .fitting .readable) in let f = d .room in omega arith))
 
     -- ---- a region goes out
 

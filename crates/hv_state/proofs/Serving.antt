@@ -1,5 +1,5 @@
 -- When a request is served. Assumes nothing.
-use mathlib.Core.Path.{_≡_, refl, sym, subst}
+use mathlib.Core.Path.{_≡_, refl, sym, ap, subst}
 use mathlib.Core.List.{List}
 use Prim.Native.Nat.{ℕ}
 use Rattle.config_view.specs.Table.{tableConfig}
@@ -9,11 +9,12 @@ use Rattle.machine.specs.declared.Request.{Request}
 use Rattle.machine.specs.declared.Answer.{Answer}
 use Rattle.machine.specs.State.{Plan, Outcome, out}
 use Rattle.machine.specs.Step.{step}
+use Rattle.machine.specs.Lists.{Call.One, Reply.Answered}
 use Rattle.machine.specs.Good.{Good}
 use Rattle.machine.specs.Parts.{Refused}
 use Rattle.machine.proofs.Keeps.{step-good}
 use Rattle.hv_state.specs.Memory.{Mem, configIn, baseIn, planOf, decode, ZonesOk, Sound}
-use Rattle.hv_state.specs.Serving.{Served}
+use Rattle.hv_state.specs.Serving.{Served, CallServed}
 
 -- a refusal that leaves the memories, and is the step's
 pub refuses : (b : Mem) (number : ℕ) (q : Request) (a : Answer) → (Sound b → step (planOf b) (decode b) number q ≡ out a (decode b)) → Served b number q b a
@@ -42,3 +43,7 @@ succeeds b number q b′ a n t p z c s =
       };
       plan = p;
     }
+
+-- a request that is served is a call that is
+pub one-served : (b : Mem) (number : ℕ) (q : Request) (b′ : Mem) (a : Answer) → Served b number q b′ a → CallServed b number (One q) b′ (Answered a)
+one-served b number q b′ a v = record { kept = v .kept; same = λ s. ap (λ (o : Outcome). record { reply = Answered (o .answer); state = o .state }) (v .same s); sound = v .sound; plan = v .plan }

@@ -1,8 +1,8 @@
--- What holds of sound memories after every sequence of requests, of any machines in any order, and of machines' writes to frames that they
+-- What holds of sound memories after every sequence of calls, of any machines in any order, and of machines' writes to frames that they
 -- own. Assumes nothing.
 use mathlib.Core.Path.{_≡_, refl, sym, _∙_, ap, subst}
 use mathlib.Core.Bool.{true}
-use mathlib.Core.List.{List, [], _∷_}
+use mathlib.Core.List.{List}
 use Prim.Native.Nat.{ℕ, _+_, _/_, _≤_, _<_}
 use native.Mathlib.Omega.{arith}
 use Rattle.owners.specs.States.{State.Free, State.Reserved, State.Owned}
@@ -15,13 +15,13 @@ use Rattle.machine.specs.declared.Reason.the-variants.{NoRoom}
 use Rattle.machine.specs.declared.Answer.{Answer}
 use Rattle.machine.specs.State.{Plan, State, Outcome, out, addressOf}
 use Rattle.machine.specs.Step.{machineOf, step}
-use Rattle.machine.specs.Lists.{Call.One}
-use Rattle.machine.specs.Run.{Event, Event.Asks, Event.Writes, run}
+use Rattle.machine.specs.Lists.{Call, Reply, Result, call}
+use Rattle.machine.specs.Run.{Event, run}
 use Rattle.machine.specs.Reach.{Way, Reach, SharedBy}
 use Rattle.machine.specs.Good.{Good}
 use Rattle.machine.specs.Parts.{Alike, Refused}
 use Rattle.machine.specs.Conditions.{May}
-use Rattle.machine.specs.Own.{FreeAlike, ofPool, only, replies, Quiet}
+use Rattle.machine.specs.Own.{FreeAlike, ofPool, callsPool, only, replies, Quiet}
 use Rattle.machine.proofs.Isolation.{isolated-now, monitor-alone, monitor-or-machine, owner-once, Apart, Account, accounted-now, same-reserved}
 use Rattle.machine.proofs.Others as others
 use Rattle.machine.proofs.Answers as answers
@@ -31,55 +31,53 @@ use Rattle.machine.proofs.Own as own
 use Rattle.machine.proofs.Whole as whole
 use Rattle.machine.proofs.Whole.{GivenBack, wholes}
 use Rattle.hv_state.specs.Memory.{Mem, configIn, planOf, decode, Sound}
-use Rattle.hv_state.specs.Serving.{Served}
+use Rattle.hv_state.specs.Serving.{Served, CallServed, Undone}
 use Rattle.hv_theorems.specs.Happening.{Becomes, Reached, wrote}
 use Rattle.hv_theorems.proofs.Writing.{write-plan, write-state, write-sound}
 
--- The memories stay sound, and mean what the requests and writes make of what they meant.
-pub reached : (b d : Mem) → Becomes b d → Sound b → Reached b d
-reached b d (Becomes.Stays _) s = record { sound = s; plan = refl; events = []; state = refl }
-reached b d (Becomes.Serves _ c _ number q a v more) s =
-    let r = reached c d more (v .sound s) in
+-- The memories stay sound, and mean what the calls and writes make of what they meant.
+pub reached : (b : Mem) (xs : List Event) (d : Mem) → Becomes b xs d → Sound b → Reached b xs d
+reached b xs d (Becomes.Stays _) s = record { sound = s; plan = refl; state = refl }
+reached b xs d (Becomes.Serves _ c _ rest number q a v more) s =
+    let r = reached c rest d more (v .sound s) in
     record {
       sound = r .sound;
       plan = r .plan ∙ v .plan s;
-      events = Asks number (One q) ∷ r .events;
-      state = r .state ∙ (λ i. run (v .plan s i) (decode c) (r .events)) ∙ sym (ap (λ (o : Outcome). run (planOf b) (o .state) (r .events)) (v .same s));
+      state = r .state ∙ (λ i. run (v .plan s i) (decode c) rest) ∙ sym (ap (λ (o : Result). run (planOf b) (o .state) rest) (v .same s));
     }
-reached b d (Becomes.Writes _ _ m j x here owns more) s =
-    let r = reached (wrote b j x) d more (write-sound b m j x s here owns) in
+reached b xs d (Becomes.Writes _ _ rest m j x here owns more) s =
+    let r = reached (wrote b j x) rest d more (write-sound b m j x s here owns) in
     record {
       sound = r .sound;
       plan = r .plan ∙ write-plan b m j x s here owns;
-      events = Writes m j x ∷ r .events;
-      state = r .state ∙ (λ i. run (write-plan b m j x s here owns i) (write-state b m j x s here owns i) (r .events));
+      state = r .state ∙ (λ i. run (write-plan b m j x s here owns i) (write-state b m j x s here owns i) rest);
     }
 
-module _ (b d : Mem) (s : Sound b) (t : Becomes b d) where
+module _ (b : Mem) (xs : List Event) (d : Mem) (s : Sound b) (t : Becomes b xs d) where
   -- Two machines reach a host page only by shared regions that the configuration lets coincide.
   pub isolated : (m m′ page : ℕ) (x y : Way) → (m ≡ m′ → ⊥) → Reach (planOf d) (decode d) m page x → Reach (planOf d) (decode d) m′ page y → SharedBy m x m′ y
-  isolated = isolated-now (planOf d) (decode d) (reached b d t s .sound .good)
+  isolated = isolated-now (planOf d) (decode d) (reached b xs d t s .sound .good)
 
   -- Every page of the allocator's region is the monitor's or that of one machine, and no machine reaches the monitor's.
   pub monitor-apart : Apart (planOf d) (decode d)
   monitor-apart =
-      let g = reached b d t s .sound .good in
+      let g = reached b xs d t s .sound .good in
       record { alone = monitor-alone (planOf d) (decode d) g; one = monitor-or-machine (planOf d) (decode d) g; once = owner-once (planOf d) (decode d) g }
 
   -- Every frame is free, reserved, or owned by one machine, which is there.
   pub accounted : (k : ℕ) → Account (decode d) k
-  accounted = accounted-now (planOf d) (decode d) (reached b d t s .sound .good)
+  accounted = accounted-now (planOf d) (decode d) (reached b xs d t s .sound .good)
 
   -- The reserved frames are those that they were: none is ever lost.
   pub reserved-stay : (k : ℕ) → (decode b .frame k ≡ Reserved → decode d .frame k ≡ Reserved) × (decode d .frame k ≡ Reserved → decode b .frame k ≡ Reserved)
   reserved-stay k =
-      let r = reached b d t s in
+      let r = reached b xs d t s in
       let g = subst (λ (p : Plan). Good p (decode d)) (r .plan) (r .sound .good) in
       (same-reserved (planOf b) k (decode b) (s .good) (decode d) g, same-reserved (planOf b) k (decode d) g (decode b) (s .good))
 
   -- Every free frame is all 0.
   pub clean : (j : ℕ) → decode d .frame (j / 512) ≡ Free → decode d .word j ≡ 0
-  clean = reached b d t s .sound .good .cleared
+  clean = reached b xs d t s .sound .good .cleared
 
 -- Of one request, of sound memories:
 module _ (b d : Mem) (number : ℕ) (q : Request) (a : Answer) (s : Sound b) (v : Served b number q d a) where
@@ -98,6 +96,16 @@ module _ (b d : Mem) (number : ℕ) (q : Request) (a : Answer) (s : Sound b) (v 
   -- It succeeds exactly if the asker is configured and the request's conditions hold.
   pub exactly : Exactly (out a (decode d)) ((machineOf (configIn b) number < configIn b .machines) × May (planOf b) (decode b) (machineOf (configIn b) number) q)
   exactly = subst (λ (o : Outcome). Exactly o ((machineOf (configIn b) number < configIn b .machines) × May (planOf b) (decode b) (machineOf (configIn b) number) q)) (v .same s) (succeeds-exactly (planOf b) (decode b) (s .good) number q)
+
+-- Of one call, one request or a list, of sound memories:
+module _ (b d : Mem) (number : ℕ) (c : Call) (r : Reply) (s : Sound b) (v : CallServed b number c d r) where
+  -- Every other machine's presence, sets, frames and their contents are as they were.
+  pub calls-unchanged : (m : ℕ) → (m ≡ machineOf (configIn b) number → ⊥) → Alike m (decode d) (decode b)
+  calls-unchanged m n = subst (λ (o : Result). Alike m (o .state) (decode b)) (v .same s) (others.calls-unchanged (planOf b) (decode b) number c m n)
+
+  -- What is not done changes nothing at all: no word and no byte of any memory.
+  pub undone-nothing : Undone r → d ≡ b
+  undone-nothing u = v .kept u
 
 -- What is handed out was free, is the asker's now, and is all 0: a run, and one frame, which is a run of one.
 pub run-handed-out : (b d : Mem) (number n a x : ℕ) → Sound b → Served b number (AllocContiguous n a) d (Answer.Address x) → HandedOut (planOf b) (decode b) (machineOf (configIn b) number) n a x (decode d)
@@ -120,6 +128,14 @@ answers-own b b′ d d′ number q a a′ s s′ e h f v v′ =
     let x = v .same s in
     let y = sym (λ i. step (e i) (decode b′) number q) ∙ v′ .same s′ in
     (sym (ap (λ (z : Outcome). z .answer) x) ∙ o .answer ∙ ap (λ (z : Outcome). z .answer) y, subst (λ (z : State). Alike (machineOf (configIn b) number) z (decode d′)) (ap (λ (z : Outcome). z .state) x) (subst (λ (z : State). Alike (machineOf (configIn b) number) (step (planOf b) (decode b) number q .state) z) (ap (λ (z : Outcome). z .state) y) (o .part)))
+
+-- The same of a call: one request, or a list of them.
+pub replies-own : (b b′ d d′ : Mem) (number : ℕ) (c : Call) (r r′ : Reply) → Sound b → Sound b′ → planOf b′ ≡ planOf b → Alike (machineOf (configIn b) number) (decode b) (decode b′) → (callsPool c ≡ true → FreeAlike (decode b) (decode b′)) → CallServed b number c d r → CallServed b′ number c d′ r′ → (r ≡ r′) × Alike (machineOf (configIn b) number) (decode d) (decode d′)
+replies-own b b′ d d′ number c r r′ s s′ e h f v v′ =
+    let o = own.replies-own (planOf b) number (decode b) (decode b′) (s .good) (subst (λ (p : Plan). Good p (decode b′)) e (s′ .good)) h c f in
+    let x = v .same s in
+    let y = sym (λ i. call (e i) (decode b′) number c) ∙ v′ .same s′ in
+    (sym (ap (λ (z : Result). z .reply) x) ∙ o .reply ∙ ap (λ (z : Result). z .reply) y, subst (λ (z : State). Alike (machineOf (configIn b) number) z (decode d′)) (ap (λ (z : Result). z .state) x) (subst (λ (z : State). Alike (machineOf (configIn b) number) (call (planOf b) (decode b) number c .state) z) (ap (λ (z : Result). z .state) y) (o .part)))
 
 -- For a machine that asks nothing of the pool, its replies in any run from what the memories mean are those in the run with all other
 -- machines' events deleted.

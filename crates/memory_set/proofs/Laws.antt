@@ -13,7 +13,7 @@ use Rattle.address.specs.Regions.{Valid, hostOf}
 use Rattle.address.proofs.Theorems.{host-fits}
 use Rattle.set_model.specs.Sets.{covers, table, none}
 use Rattle.set_model.proofs.Tests.{covers-contains}
-use Rattle.set_slots.specs.Slots.{slot, regionsIn, Readable, Fails, Empty, UsedOk, Sorted, SetOk}
+use Rattle.set_slots.specs.Slots.{slot, regionsIn, Readable, Fails, Empty, UsedOk, SetOk}
 use Rattle.set_slots.proofs.Found.{regions-are, some-found, found-is}
 use Rattle.set_slots.proofs.Order.{set-is-ok, used-in-set}
 use Rattle.memory_set.specs.Looks.{hostIn, Reaches, FirstWrong}
@@ -35,20 +35,20 @@ none-no {z} {at} {slots} {n} d e q = rw (regions-are d e) (go n q)
 -- ---- translation
 
 -- the host address by the region in the slot that was found
-module _ {z : List ℕ} {at slots n i : ℕ} (addr : ℕ) {r : Region} (d : Sorted z at slots) (e : n ≡ getD z at 0) (s : Stops (Fails (covers addr) z at) 0 n i) (l : i < n) (g : r ≡ slot z at i) where
+module _ {z : List ℕ} {at slots n i : ℕ} (addr : ℕ) {r : Region} (d : Readable z at slots) (e : n ≡ getD z at 0) (s : Stops (Fails (covers addr) z at) 0 n i) (l : i < n) (g : r ≡ slot z at i) where
   by-region : hostOf (r .guest) (r .host) addr ≡ hostIn (regionsIn z at slots) addr
-  by-region = ap (λ (x : Region). hostOf (x .guest) (x .host) addr) (g ∙ sym (found-is (covers addr) i (d .readable) e s l))
+  by-region = ap (λ (x : Region). hostOf (x .guest) (x .host) addr) (g ∙ sym (found-is (covers addr) i d e s l))
 
   pub reaches : {h : ℕ} → h ≡ hostOf (r .guest) (r .host) addr → Reaches z at slots addr h
-  reaches q = record { sorted = d; covered = some-found (covers addr) i (d .readable) e s l; is = q ∙ by-region }
+  reaches q = record { readable = d; covered = some-found (covers addr) i d e s l; is = q ∙ by-region }
 
   -- the region has the address
   pub has-it : Contains (r .guest) (r .pages) addr
   has-it = covers-contains addr r (ap (covers addr) g ∙ not-failed (covers addr (slot z at i)) (s .fails l))
 
-  -- and its host address fits 64 bits
-  pub not-beyond : 2 ^ 64 ≤ hostOf (r .guest) (r .host) addr → ⊥
-  not-beyond b = let h = host-fits (subst (λ (x : Region). Valid (x .guest) (x .host) (x .pages)) (sym g) (d .right i (omega arith) .valid)) has-it in omega arith
+  -- where its slot is right its host address fits 64 bits
+  pub not-beyond : UsedOk z at i → 2 ^ 64 ≤ hostOf (r .guest) (r .host) addr → ⊥
+  not-beyond u b = let h = host-fits (subst (λ (x : Region). Valid (x .guest) (x .host) (x .pages)) (sym g) (u .valid)) has-it in omega arith
 
 -- ---- order
 

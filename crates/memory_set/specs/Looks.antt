@@ -7,17 +7,16 @@ use lib.ListN.{getD}
 use Rattle.address.specs.declared.Region.{Region}
 use Rattle.address.specs.Regions.{hostOf}
 use Rattle.set_model.specs.Sets.{meets, starts, covers, any, none, find}
-use Rattle.set_slots.specs.Slots.{regionsIn, Lies, Readable, Empty, UsedOk, Sorted, SetOk}
-use Rattle.set_claims.specs.Claims.{CountedSays, BadSays}
-use Rattle.set_claims.specs.declared.Size.{Size}
+use Rattle.set_slots.specs.Slots.{regionsIn, Lies, Readable, Empty, UsedOk, SetOk}
+use Rattle.set_claims.specs.Claims.{BadSays}
 use Rattle.memory_set.specs.declared.Answer.{Answer}
 use Rattle.memory_set.specs.declared.Translation.{Translation}
 use Rattle.memory_set.specs.declared.Checked.{Checked}
 
 -- yes, exactly if the test of the set's regions passes
 abbrev pub AnswerSays : Bool → List ℕ → ℕ → ℕ → Answer → Type 0
-AnswerSays test z at slots Answer.Yes = Sorted z at slots × (test ≡ true)
-AnswerSays test z at slots Answer.No = Sorted z at slots × (test ≡ false)
+AnswerSays test z at slots Answer.Yes = Readable z at slots × (test ≡ true)
+AnswerSays test z at slots Answer.No = Readable z at slots × (test ≡ false)
 AnswerSays test z at slots (Answer.Bad why) = BadSays z at slots why
 
 abbrev pub EmptySays : List ℕ → ℕ → ℕ → Answer → Type 0
@@ -39,14 +38,14 @@ hostIn l addr = hostOf (find (covers addr) l .guest) (find (covers addr) l .host
 
 -- addr stands for the host address h
 pub record Reaches (z : List ℕ) (at slots addr h : ℕ) : Type 0 where
-  pub sorted : Sorted z at slots
+  pub readable : Readable z at slots
   pub covered : any (covers addr) (regionsIn z at slots) ≡ true
   pub is : h ≡ hostIn (regionsIn z at slots) addr
 
 -- the host address of a guest address
 abbrev pub TranslateSays : List ℕ → ℕ → ℕ → ℕ → Translation → Type 0
 TranslateSays z at slots addr (Translation.Host h) = Reaches z at slots addr h
-TranslateSays z at slots addr Translation.NotMapped = Sorted z at slots × (any (covers addr) (regionsIn z at slots) ≡ false)
+TranslateSays z at slots addr Translation.NotMapped = Readable z at slots × (any (covers addr) (regionsIn z at slots) ≡ false)
 TranslateSays z at slots addr (Translation.Bad why) = BadSays z at slots why
 
 -- ---- order
@@ -67,5 +66,5 @@ pub record FirstWrong (z : List ℕ) (at slots i : ℕ) : Type 0 where
 -- whether there is a set in order
 abbrev pub CheckSays : List ℕ → ℕ → ℕ → Checked → Type 0
 CheckSays z at slots Checked.Fine = Lies z at slots × SetOk z at slots
-CheckSays z at slots (Checked.Bad why) = CountedSays z at slots (Size.No why)
+CheckSays z at slots (Checked.Bad why) = BadSays z at slots why
 CheckSays z at slots (Checked.Wrong i) = FirstWrong z at slots i

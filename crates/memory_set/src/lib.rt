@@ -21,6 +21,7 @@ pub enum Translation {
     Host(u64),
     // No region has the guest address.
     NotMapped,
+    // Corrupt also where the slot of the region that has it is not right.
     Bad(Bad),
 }
 
@@ -88,6 +89,9 @@ pub fn translate(words: &[u64], at: usize, slots: usize, addr: u64) -> Translati
             if n <= i {
                 return Translation::NotMapped;
             }
+            if !set_slots::used_ok(words, at, i) {
+                return Translation::Bad(Bad::Corrupt);
+            }
             let r = region_words::get(words, at + 1 + 4 * i);
             match address::translate(r, addr) {
                 Translated::Host(host) => Translation::Host(host),
@@ -103,7 +107,7 @@ pub fn translate(words: &[u64], at: usize, slots: usize, addr: u64) -> Translati
 pub fn check(words: &[u64], at: usize, slots: usize) -> Checked
     ensures { λ a. ⌜ CheckSays (now (words .entry)) at slots a ⌝ }
 {
-    match set_claims::counted(words, at, slots) {
+    match set_claims::count(words, at, slots) {
         Size::No(bad) => Checked::Bad(bad),
         Size::Is(n) => {
             let i = set_slots::first_wrong(words, at, n);

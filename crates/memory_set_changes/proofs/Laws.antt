@@ -10,25 +10,24 @@ use Rattle.set_model.specs.Sets.{same, any, find}
 use Rattle.set_model.proofs.Tests.{same-is}
 use Rattle.set_model.proofs.Lists.{find-passes}
 use Rattle.set_model.proofs.Pages.{without-maps}
-use Rattle.set_slots.specs.Slots.{regionsIn, Readable, Fails, Sorted}
+use Rattle.set_slots.specs.Slots.{regionsIn, Readable, Fails}
 use Rattle.set_slots.proofs.Found.{some-found}
-use Rattle.set_slots.proofs.Order.{sorted-ordered}
 use Rattle.set_shifts.specs.Shifts.{LeftOut}
 use Rattle.memory_set_changes.specs.Changes.{WentOut}
 
 -- a region went out that was found
-pub went-out : {z z′ : List ℕ} {at slots n p : ℕ} {r : Region} (t : Region → Bool) → Sorted z at slots → n ≡ getD z at 0 → Stops (Fails t z at) 0 n p → p < n → r ≡ find t (regionsIn z at slots) → LeftOut z at p z′ → WentOut t z at slots r z′
+pub went-out : {z z′ : List ℕ} {at slots n p : ℕ} {r : Region} (t : Region → Bool) → Readable z at slots → n ≡ getD z at 0 → Stops (Fails t z at) 0 n p → p < n → r ≡ find t (regionsIn z at slots) → LeftOut z at p z′ → WentOut t z at slots r z′
 went-out {z} {z′} {at} {slots} {n} {p} {r} t d e s l g o =
     record {
-      sorted = d;
+      readable = d;
       some = some;
       is = g;
-      became = o .became slots t (d .readable) (subst (λ (k : ℕ). Stops (Fails t z at) 0 k p) e s);
-      maps = rw g (without-maps t (regionsIn z at slots) (sorted-ordered d) some);
+      became = o .became slots t d (subst (λ (k : ℕ). Stops (Fails t z at) 0 k p) e s);
+      maps = λ ok. rw g (without-maps t (regionsIn z at slots) (ok .ordered) some);
     }
   where
     some : any t (regionsIn z at slots) ≡ true
-    some = some-found t p (d .readable) e s l
+    some = some-found t p d e s l
 
 -- the region that is the same as r is r
 pub same-found : {z : List ℕ} {at slots n p : ℕ} (r : Region) → Readable z at slots → n ≡ getD z at 0 → Stops (Fails (same r) z at) 0 n p → p < n → r ≡ find (same r) (regionsIn z at slots)

@@ -7,7 +7,7 @@ use lib.ListN.{getD}
 use Rattle.base.specs.Ranges.{Only}
 use Rattle.address.specs.declared.Region.{Region}
 use Rattle.set_model.specs.Sets.{same, starts, any, find, enter, without, MapsMore, MapsLess}
-use Rattle.set_slots.specs.Slots.{regionsIn, Lies, Empty, Sorted, SetOk, Became}
+use Rattle.set_slots.specs.Slots.{regionsIn, Lies, Readable, Empty, SetOk, Became}
 use Rattle.set_claims.specs.Claims.{BadSays, Fitting, Refused}
 use Rattle.memory_set_changes.specs.declared.Inserted.{Inserted}
 use Rattle.memory_set_changes.specs.declared.TakenOut.{TakenOut}
@@ -30,24 +30,24 @@ InsertSays z at slots r z′ (Inserted.No why) = (z′ ≡ z) × Refused z at sl
 
 -- ---- a region goes out
 
--- r, the first region that passes the test, went out, and the set maps no page of it any more
+-- r, the first region that passes the test, went out, and a set in order maps no page of it any more
 pub record WentOut (t : Region → Bool) (z : List ℕ) (at slots : ℕ) (r : Region) (z′ : List ℕ) : Type 0 where
-  pub sorted : Sorted z at slots
+  pub readable : Readable z at slots
   pub some : any t (regionsIn z at slots) ≡ true
   pub is : r ≡ find t (regionsIn z at slots)
   pub became : Became z at slots (without t (regionsIn z at slots)) z′
-  pub maps : MapsLess (regionsIn z at slots) r (without t (regionsIn z at slots))
+  pub maps : SetOk z at slots → MapsLess (regionsIn z at slots) r (without t (regionsIn z at slots))
 
 -- whether the region that starts at a guest address went out, and which it was
 abbrev pub TakeSays : List ℕ → ℕ → ℕ → ℕ → List ℕ → TakenOut → Type 0
 TakeSays z at slots guest z′ (TakenOut.Was r) = WentOut (starts guest) z at slots r z′
-TakeSays z at slots guest z′ TakenOut.NotThere = (z′ ≡ z) × Sorted z at slots × (any (starts guest) (regionsIn z at slots) ≡ false)
+TakeSays z at slots guest z′ TakenOut.NotThere = (z′ ≡ z) × Readable z at slots × (any (starts guest) (regionsIn z at slots) ≡ false)
 TakeSays z at slots guest z′ (TakenOut.Bad why) = (z′ ≡ z) × BadSays z at slots why
 
 -- whether r went out, the same in every field
 abbrev pub RemoveSays : List ℕ → ℕ → ℕ → Region → List ℕ → Removed → Type 0
 RemoveSays z at slots r z′ Removed.Done = WentOut (same r) z at slots r z′
-RemoveSays z at slots r z′ Removed.NotThere = (z′ ≡ z) × Sorted z at slots × (any (same r) (regionsIn z at slots) ≡ false)
+RemoveSays z at slots r z′ Removed.NotThere = (z′ ≡ z) × Readable z at slots × (any (same r) (regionsIn z at slots) ≡ false)
 RemoveSays z at slots r z′ (Removed.Bad why) = (z′ ≡ z) × BadSays z at slots why
 
 -- ---- all regions go out

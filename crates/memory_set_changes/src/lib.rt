@@ -48,6 +48,9 @@ pub fn insert(words: &mut [u64], at: usize, slots: usize, r: Region) -> Inserted
         MayInsert::No(why) => Inserted::No(why),
         MayInsert::Yes(n) => {
             let p = set_slots::first_above(words, at, n, r.guest);
+            if !set_claims::is_right(words, at, n, p) {
+                return Inserted::No(NotInserted::Bad(Bad::Corrupt));
+            }
             set_shifts::shift_up(words, at, p, n);
             region_words::put(words, at + 1 + 4 * p, r);
             words[at] = n as u64 + 1;
@@ -67,6 +70,9 @@ pub fn remove_starting_at(words: &mut [u64], at: usize, slots: usize, guest: u64
             if n <= p {
                 return TakenOut::NotThere;
             }
+            if !set_slots::used_ok(words, at, p) {
+                return TakenOut::Bad(Bad::Corrupt);
+            }
             let r = region_words::get(words, at + 1 + 4 * p);
             set_shifts::take_out(words, at, p, n - 1);
             TakenOut::Was(r)
@@ -84,6 +90,9 @@ pub fn remove(words: &mut [u64], at: usize, slots: usize, r: Region) -> Removed
             let p = set_slots::first_same(words, at, n, r);
             if n <= p {
                 return Removed::NotThere;
+            }
+            if !set_slots::used_ok(words, at, p) {
+                return Removed::Bad(Bad::Corrupt);
             }
             set_shifts::take_out(words, at, p, n - 1);
             Removed::Done

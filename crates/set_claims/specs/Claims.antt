@@ -7,17 +7,11 @@ use lib.ListN.{getD}
 use Rattle.address.specs.declared.Region.{Region}
 use Rattle.address.specs.Regions.{Valid, ValiditySays}
 use Rattle.set_model.specs.Sets.{meets, any}
-use Rattle.set_slots.specs.Slots.{regionsIn, Lies, Readable, UsedOk, Sorted, SetOk}
+use Rattle.set_slots.specs.Slots.{regionsIn, Lies, Readable, UsedOk, SetOk}
 use Rattle.set_claims.specs.declared.Bad.{Bad}
 use Rattle.set_claims.specs.declared.Size.{Size}
 use Rattle.set_claims.specs.declared.NotInserted.{NotInserted}
 use Rattle.set_claims.specs.declared.MayInsert.{MayInsert}
-
--- how many regions the set says that it has
-abbrev pub CountedSays : List ℕ → ℕ → ℕ → Size → Type 0
-CountedSays z at slots (Size.Is n) = Readable z at slots × (n ≡ getD z at 0)
-CountedSays z at slots (Size.No Bad.NoSet) = Lies z at slots → ⊥
-CountedSays z at slots (Size.No Bad.Corrupt) = Lies z at slots × (slots < getD z at 0)
 
 -- the count is above the slots, or else a slot that it counts is not right: the set is not in order
 pub record Broken (z : List ℕ) (at slots : ℕ) : Type 0 where
@@ -30,22 +24,22 @@ abbrev pub BadSays : List ℕ → ℕ → ℕ → Bad → Type 0
 BadSays z at slots Bad.NoSet = Lies z at slots → ⊥
 BadSays z at slots Bad.Corrupt = Broken z at slots
 
--- how many regions the set has, each in a slot that is right
+-- how many regions the set has
 abbrev pub SizeSays : List ℕ → ℕ → ℕ → Size → Type 0
-SizeSays z at slots (Size.Is n) = Sorted z at slots × (n ≡ getD z at 0)
+SizeSays z at slots (Size.Is n) = Readable z at slots × (n ≡ getD z at 0)
 SizeSays z at slots (Size.No why) = BadSays z at slots why
 
 -- there is a set, r is valid, and no region of the set has a guest page of it
 pub record Fitting (z : List ℕ) (at slots : ℕ) (r : Region) : Type 0 where
-  pub sorted : Sorted z at slots
+  pub readable : Readable z at slots
   pub valid : Valid (r .guest) (r .host) (r .pages)
   pub alone : any (meets r) (regionsIn z at slots) ≡ false
 
 -- the first reason why r does not go in
 abbrev pub Refused : List ℕ → ℕ → ℕ → Region → NotInserted → Type 0
 Refused z at slots r (NotInserted.Bad why) = BadSays z at slots why
-Refused z at slots r (NotInserted.NotValid fault) = Sorted z at slots × ValiditySays (r .guest) (r .host) (r .pages) fault × (Valid (r .guest) (r .host) (r .pages) → ⊥)
-Refused z at slots r NotInserted.Overlap = Sorted z at slots × Valid (r .guest) (r .host) (r .pages) × (any (meets r) (regionsIn z at slots) ≡ true)
+Refused z at slots r (NotInserted.NotValid fault) = Readable z at slots × ValiditySays (r .guest) (r .host) (r .pages) fault × (Valid (r .guest) (r .host) (r .pages) → ⊥)
+Refused z at slots r NotInserted.Overlap = Readable z at slots × Valid (r .guest) (r .host) (r .pages) × (any (meets r) (regionsIn z at slots) ≡ true)
 Refused z at slots r NotInserted.NoRoom = Fitting z at slots r × (getD z at 0 ≡ slots)
 
 -- whether r may go in, and to how many regions

@@ -1,6 +1,9 @@
-// What may be asked of a set in memory, and why not: whether its words are there and its regions in order,
-// and whether a region may go in. Nothing is changed here, and nothing is demanded of the caller.
-ghost use Rattle.set_claims.specs.Claims.{CountedSays, SizeSays, MayInsertSays};
+// What may be asked of a set in memory, and why not: whether its words are there and its count is one, and
+// whether a region may go in. Nothing is changed here, and nothing is demanded of the caller.
+ghost use Prim.Native.Nat.{_<_};
+ghost use Rattle.base.specs.Says.{Says};
+ghost use Rattle.set_slots.specs.Slots.{Lies, UsedOk};
+ghost use Rattle.set_claims.specs.Claims.{SizeSays, MayInsertSays};
 use address::Fault;
 use address::Region;
 
@@ -8,7 +11,7 @@ use address::Region;
 pub enum Bad {
     // It does not lie within the words.
     NoSet,
-    // Its count is above its slots, or its regions are not valid and ascending.
+    // Its count is above its slots, or a slot that was met is not right.
     Corrupt,
 }
 
@@ -35,9 +38,9 @@ pub enum MayInsert {
     No(NotInserted),
 }
 
-// How many regions the set says that it has.
-pub fn counted(words: &[u64], at: usize, slots: usize) -> Size
-    ensures { λ s. ⌜ CountedSays (now (words .entry)) at slots s ⌝ }
+// How many regions the set has.
+pub fn count(words: &[u64], at: usize, slots: usize) -> Size
+    ensures { λ s. ⌜ SizeSays (now (words .entry)) at slots s ⌝ }
 {
     if !set_slots::lies(words, at, slots) {
         return Size::No(Bad::NoSet);
@@ -49,19 +52,15 @@ pub fn counted(words: &[u64], at: usize, slots: usize) -> Size
     Size::Is(n)
 }
 
-// How many regions the set has, where they are in order.
-pub fn count(words: &[u64], at: usize, slots: usize) -> Size
-    ensures { λ s. ⌜ SizeSays (now (words .entry)) at slots s ⌝ }
+// Whether slot i is right, if it is one of the first n.
+pub fn is_right(words: &[u64], at: usize, n: usize, i: usize) -> bool
+    requires { ⌜ Lies (now words) at n ⌝ }
+    ensures { λ yes. ⌜ Says yes (i < n → UsedOk (now (words .entry)) at i) ⌝ }
 {
-    match counted(words, at, slots) {
-        Size::No(bad) => Size::No(bad),
-        Size::Is(n) => {
-            if set_slots::first_wrong(words, at, n) < n {
-                return Size::No(Bad::Corrupt);
-            }
-            Size::Is(n)
-        }
+    if n <= i {
+        return true;
     }
+    set_slots::used_ok(words, at, i)
 }
 
 // Whether r may go into the set, and to how many regions.

@@ -65,8 +65,8 @@ abbrev pub without : (Region → Bool) → List Region → List Region
 without p [] = []
 without p (x ∷ xs) = pick (p x) xs (x ∷ without p xs)
 
--- the regions of a function's first n places
-abbrev pub table : (ℕ → Region) → ℕ → List Region
+-- the values of a function at its first n places
+abbrev pub table : {A : Type 0} → (ℕ → A) → ℕ → List A
 table f zero = []
 table f (suc n) = f zero ∷ table (λ i. f (suc i)) n
 

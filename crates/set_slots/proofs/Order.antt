@@ -14,7 +14,7 @@ use Rattle.address.specs.Regions.{Valid}
 use Rattle.region_words.specs.Words.{regionOf, HasRegion}
 use Rattle.region_words.proofs.Laws.{number-back, number-small}
 use Rattle.set_model.specs.Sets.{table, From, Ordered}
-use Rattle.set_slots.specs.Slots.{slot, regionsIn, Readable, Empty, Follows, UsedOk, Sorted, SetOk}
+use Rattle.set_slots.specs.Slots.{slot, Readable, Empty, Follows, UsedOk, SetOk}
 use Rattle.set_slots.proofs.Found.{regions-are}
 
 -- ---- the words of one slot
@@ -67,10 +67,6 @@ follows-in f (suc (suc n)) (suc i) o l = follows-in (λ i. f (suc i)) (suc n) i 
 
 -- ---- the set, by slots
 
--- where each slot that the count counts is right the regions are in order
-pub sorted-ordered : {z : List ℕ} {at slots : ℕ} → Sorted z at slots → Ordered (regionsIn z at slots)
-sorted-ordered {z} {at} s = rw (regions-are (s .readable) refl) (in-order (slot z at) (getD z at 0) (λ i l. s .right i l .valid) (λ i l. s .right (suc i) l .follows i (add-one i)))
-
 -- where each slot is right the set is in order
 pub set-is-ok : {z : List ℕ} {at slots n : ℕ} → Readable z at slots → n ≡ getD z at 0 → ((i : ℕ) → i < n → UsedOk z at i) → ((i : ℕ) → n ≤ i → i < slots → Empty z at i) → SetOk z at slots
 set-is-ok {z} {at} {slots} {n} r e used left =
@@ -78,7 +74,7 @@ set-is-ok {z} {at} {slots} {n} r e used left =
       few = r .few;
       kinds = λ i l. used i (omega arith) .kind;
       clear = λ i l h. left i (omega arith) h;
-      ordered = sorted-ordered (record { readable = r; right = λ i l. used i (omega arith) });
+      ordered = rw (regions-are r e) (in-order (slot z at) n (λ i l. used i l .valid) (λ i l. used (suc i) l .follows i (add-one i)));
     }
 
 -- and in a set in order each is

@@ -54,11 +54,6 @@ pub record UsedOk (z : List ℕ) (at i : ℕ) : Type 0 where
 
 -- ---- the set
 
--- the set can be read, and each slot that its count counts is right
-pub record Sorted (z : List ℕ) (at slots : ℕ) : Type 0 where
-  pub readable : Readable z at slots
-  pub right : (i : ℕ) → i < getD z at 0 → UsedOk z at i
-
 -- the set is in order, and all its words are determined by its regions
 pub record SetOk (z : List ℕ) (at slots : ℕ) : Type 0 where
   pub few : getD z at 0 ≤ slots

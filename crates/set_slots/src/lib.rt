@@ -117,7 +117,7 @@ fn follows(before: Region, r: Region) -> bool
 }
 
 // Whether slot i, one of those that hold regions, is right.
-fn used_ok(z: &[u64], at: usize, i: usize) -> bool
+pub fn used_ok(z: &[u64], at: usize, i: usize) -> bool
     requires { ⌜ Lies (now z) at (i + 1) ⌝ }
     ensures { λ yes. ⌜ Says yes (UsedOk (now (z .entry)) at i) ⌝ }
 {

@@ -2,11 +2,11 @@
 //! `model` is a plain array of booleans, and `rival` the same tree written in Rust for speed; `shared` is
 //! the same for the shared allocator, whose frames have owners and contents. `config_plain` is a
 //! plain checker of configurations, and `config_cases` compares ours with it. `machines` is the same for
-//! machines, their regions and their frames.
+//! machines, their regions and their frames, and for calls in bytes.
 //!
 //! The programs are `compare` (every answer and every frame, and the findings), `sample` (a list of
 //! upstream's answers for a Rattle program to replay), `bench` (speed of the bitmap), `config_speed` (of a check) and
-//! `machine_speed` (of machines' requests).
+//! `machine_speed` (of machines' requests and calls).
 pub mod columns;
 pub mod config_cases;
 pub mod config_plain;

@@ -1,8 +1,9 @@
 //! The proved bitmap, through its exported functions. All that is unsafe in this workspace is here and in
-//! the modules beneath: the shared allocator without and with contents, and the machines.
+//! the modules beneath: the shared allocator without and with contents, the machines, and their calls.
 use crate::request::{Answer, Reason, Request};
 
 pub mod allocator;
+pub mod calls;
 pub mod frames;
 pub mod machines;
 

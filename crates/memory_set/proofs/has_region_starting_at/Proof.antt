@@ -18,16 +18,16 @@ enum-known-n : tie.Need-enum-known-n
 enum-known-n c = search needs
 
 first-starting-requires : tie.Need-first-starting-requires
-first-starting-requires c κs = let x = told (SizeSays _ _ _) (c .before .n .given .1) (c .before .before .before .count .ensures) in let l = lies-used (x .0 .readable) (x .1) in omega arith
+first-starting-requires c κs = let x = told (SizeSays _ _ _) (c .before .n .given .1) (c .before .before .before .count .ensures) in let l = lies-used (x .0) (x .1) in omega arith
 
 returns : tie.Need-returns
-returns c = let x = told (SizeSays _ _ _) (c .before .before .before .n .given .1) (c .before .before .before .before .before .count .ensures) in (x .0, some-found (starts (c .before .before .before .before .before .before .before .args .guest)) (c .before .first-starting .result) (x .0 .readable) (x .1) (c .before .first-starting .ensures) (omega (arith, c .if1 .taken)))
+returns c = let x = told (SizeSays _ _ _) (c .before .before .before .n .given .1) (c .before .before .before .before .before .count .ensures) in (x .0, some-found (starts (c .before .before .before .before .before .before .before .args .guest)) (c .before .first-starting .result) (x .0) (x .1) (c .before .first-starting .ensures) (omega (arith, c .if1 .taken)))
 
 returns-2 : tie.Need-returns-2
 returns-2 c = told (SizeSays _ _ _) (c .before .bad .given .1) (c .before .before .before .count .ensures)
 
 returns-3 : tie.Need-returns-3
-returns-3 c = let x = told (SizeSays _ _ _) (c .before .before .before .n .given .1) (c .before .before .before .before .before .count .ensures) in (x .0, none-found (starts (c .before .before .before .before .before .before .before .args .guest)) (c .before .first-starting .result) (x .0 .readable) (x .1) (c .before .first-starting .ensures) (omega (arith, c .if1 .left)))
+returns-3 c = let x = told (SizeSays _ _ _) (c .before .before .before .n .given .1) (c .before .before .before .before .before .count .ensures) in (x .0, none-found (starts (c .before .before .before .before .before .before .before .args .guest)) (c .before .first-starting .result) (x .0) (x .1) (c .before .first-starting .ensures) (omega (arith, c .if1 .left)))
 
 pub has-region-starting-at-spec : {M : Type 1} → statement M
 has-region-starting-at-spec =

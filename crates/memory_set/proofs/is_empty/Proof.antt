@@ -16,13 +16,13 @@ enum-known-n : tie.Need-enum-known-n
 enum-known-n c = search needs
 
 returns : tie.Need-returns
-returns c = let x = told (SizeSays _ _ _) (c .before .before .n .given .1) (c .before .before .before .before .count .ensures) in (x .0, none-yes (x .0 .readable) (x .1) (c .if1 .taken))
+returns c = let x = told (SizeSays _ _ _) (c .before .before .n .given .1) (c .before .before .before .before .count .ensures) in (x .0, none-yes (x .0) (x .1) (c .if1 .taken))
 
 returns-2 : tie.Need-returns-2
 returns-2 c = told (SizeSays _ _ _) (c .before .bad .given .1) (c .before .before .before .count .ensures)
 
 returns-3 : tie.Need-returns-3
-returns-3 c = let x = told (SizeSays _ _ _) (c .before .before .n .given .1) (c .before .before .before .before .count .ensures) in (x .0, none-no (x .0 .readable) (x .1) (c .if1 .left))
+returns-3 c = let x = told (SizeSays _ _ _) (c .before .before .n .given .1) (c .before .before .before .before .count .ensures) in (x .0, none-no (x .0) (x .1) (c .if1 .left))
 
 pub is-empty-spec : {M : Type 1} → statement M
 is-empty-spec =

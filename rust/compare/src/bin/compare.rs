@@ -5,7 +5,7 @@
 //!
 //! The last line is 'N passed, M failed', where each comparison and each finding counts as one.
 use compare::machines::rival::Rival;
-use compare::machines::subject::Machines;
+use compare::machines::subject::{Calls, Machines};
 use compare::machines::{self, truck};
 use compare::ours::machines::Ours;
 use compare::random::Extent;
@@ -34,12 +34,23 @@ struct Plan {
     allocators: ([usize; 3], [usize; 3]),
     /// Random configurations.
     configurations: usize,
-    /// Machines: random configurations with 300 requests each, at 16, 256 and 4096 frames; of the rival a tenth.
+    /// Machines: random configurations with 300 requests each, at 16, 256 and 4096 frames; of the rival a
+    /// tenth.
     machines: [usize; 3],
     /// Damaged memories of machines, at 16, 256 and 4096 frames.
     damaged_machines: [usize; 3],
     /// Starts with lengths that do not go together.
     starts: usize,
+    /// Random configurations with 60 calls each, most of them lists, at 16, 256 and 4096 frames; of the rival
+    /// a tenth.
+    lists: [usize; 3],
+    /// Sequences of calls, pairs of sequences with and without the others' calls, and memories that are
+    /// called with any bytes, at 16, 256 and 4096 frames.
+    runs: [usize; 3],
+    pairs: [usize; 3],
+    any_bytes: [usize; 3],
+    /// Sets that are out of order.
+    sets: usize,
 }
 
 const QUICK: Plan = Plan {
@@ -53,6 +64,11 @@ const QUICK: Plan = Plan {
     machines: [500, 150, 30],
     damaged_machines: [2_000, 500, 30],
     starts: 5_000,
+    lists: [800, 250, 20],
+    runs: [4_000, 800, 40],
+    pairs: [1_500, 300, 20],
+    any_bytes: [5_000, 1_000, 50],
+    sets: 1_000,
 };
 const ALL: Plan = Plan {
     sequences: [100_000, 100_000, 20_000, 2_000, 400, 100],
@@ -65,6 +81,11 @@ const ALL: Plan = Plan {
     machines: [20_000, 5_000, 1_000],
     damaged_machines: [50_000, 10_000, 500],
     starts: 100_000,
+    lists: [10_000, 3_000, 300],
+    runs: [50_000, 10_000, 500],
+    pairs: [20_000, 4_000, 300],
+    any_bytes: [50_000, 10_000, 500],
+    sets: 20_000,
 };
 /// How many frames the shared allocators of a plan have.
 const SHARED: [usize; 5] = [16, 256, 4096, 65536, 1 << 20];
@@ -119,6 +140,7 @@ fn run(plan: &Plan) -> bool {
     report.run("the truck's configuration, cut off and changed", config_cases::changed);
     report.run("random configurations", || config_cases::random(plan.configurations));
     truck_and_machines(&mut report, plan);
+    calls(&mut report, plan);
     report.end()
 }
 
@@ -143,6 +165,34 @@ fn machines_random<S: Machines>(report: &mut Report, frames: usize, sequences: u
     let name = format!("machines, random sequences at {frames}, {}", S::NAME);
     let extent = machines::random::Extent { frames, sequences, length: 300 };
     report.run(&name, || machines::random::run::<S>(extent));
+}
+
+/// Requests in bytes, lists of them and sequences of calls beside the plain model.
+fn calls(report: &mut Report, plan: &Plan) {
+    for (name, case) in machines::call_cases::all::<Ours>() {
+        report.run(&format!("calls, {name}"), case);
+    }
+    report.run("calls, sets out of order", || machines::sets::run::<Ours>(plan.sets));
+    for (i, frames) in MACHINES.into_iter().enumerate() {
+        random_lists::<Ours>(report, frames, plan.lists[i]);
+        random_lists::<Rival>(report, frames, plan.lists[i] / 10);
+        report.run(&format!("calls, sequences at {frames}"), || {
+            machines::runs::run::<Ours>(frames, plan.runs[i])
+        });
+        report.run(&format!("calls, with and without the others at {frames}"), || {
+            machines::purge::run::<Ours>(frames, plan.pairs[i])
+        });
+        report.run(&format!("calls, any bytes at {frames}"), || {
+            machines::any_bytes::run::<Ours>(frames, plan.any_bytes[i])
+        });
+    }
+}
+
+/// Random lists of machines' requests.
+fn random_lists<S: Calls>(report: &mut Report, frames: usize, sequences: usize) {
+    let name = format!("calls, random lists at {frames}, {}", S::NAME);
+    let extent = machines::random::Extent { frames, sequences, length: 60 };
+    report.run(&name, || machines::lists::run::<S>(extent));
 }
 
 /// The shared allocator beside the plain model.

@@ -1,5 +1,5 @@
-//! Times the requests of machines, ours beside a rival in Rust over the same memories, and prints a table. The
-//! figures mean something only on a machine that does nothing else.
+//! Times the requests and calls of machines, ours beside a rival in Rust over the same memories, and prints a
+//! table. The figures mean something only on a machine that does nothing else.
 use compare::machines::timing;
 
 fn main() {

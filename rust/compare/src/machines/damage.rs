@@ -61,7 +61,7 @@ fn one<S: Machines>(frames: usize, rng: &mut Rng, tally: &mut Tally) -> Result<(
 }
 
 /// Sound memories that some requests led to, something in every frame that is owned, and a model of who has what.
-fn reached<S: Machines>(plan: &Plan, rng: &mut Rng) -> Result<(Memory, Model), String> {
+pub fn reached<S: Machines>(plan: &Plan, rng: &mut Rng) -> Result<(Memory, Model), String> {
     let mut memory = Memory::any(Sizes::of(plan), rng);
     let mut model = Model::new(plan);
     if memory.start::<S>(&bytes(&plan.config)) != 0 {
@@ -101,7 +101,7 @@ fn anything(rng: &mut Rng) -> (u64, Request) {
 }
 
 /// Random bytes everywhere or in one memory, one of another length, or some words changed.
-fn damage(memory: &mut Memory, plan: &Plan, rng: &mut Rng) {
+pub fn damage(memory: &mut Memory, plan: &Plan, rng: &mut Rng) {
     match rng.below(8) {
         0 => *memory = Memory::any(Sizes::of(plan), rng),
         1 => {
@@ -218,8 +218,7 @@ fn as_the_model(
     if told != answer {
         return Err(format!("{}, and the model {}", said(told), said(answer)));
     }
-    let after = sound(memory.view())?;
-    if after.zones != model.zones || after.frames != model.frames || after.contents != model.contents {
+    if !sound(memory.view())?.same_as(&model) {
         return Err(format!("{}, and something else changed", said(told)));
     }
     Ok(())

@@ -1,8 +1,8 @@
 //! The five memories of a configuration's machines, each lent with something on both sides, and how they
 //! are asked.
 use super::model::Plan;
-use super::request::{Answer, Request, Which};
-use super::subject::Machines;
+use super::request::{Answer, Request};
+use super::subject::{ask, Machines, Rooms, SpareRooms};
 use crate::lent::{Cell, Lent};
 use crate::rng::Rng;
 use crate::shared::request::WORDS;
@@ -10,7 +10,7 @@ use crate::shared::request::WORDS;
 /// The words of a configuration's table.
 pub const TABLE: usize = 8325;
 /// Stands behind the pointer before a call. No answer is this: no region ends behind it.
-const UNWRITTEN: u64 = u64::MAX;
+pub const UNWRITTEN: u64 = u64::MAX;
 
 /// How long the memories are.
 #[derive(Clone, Copy, Debug, PartialEq, Eq)]
@@ -55,8 +55,39 @@ pub struct Memory {
     pub words: Lent<u64>,
 }
 
+/// The spare memories that are lent with a call.
+#[derive(Clone)]
+pub struct Spare {
+    pub zones: Lent<u64>,
+    pub tree: Lent<u16>,
+    pub owners: Lent<u8>,
+}
+
+impl Spare {
+    /// Spare memories for memories of these lengths, which hold anything.
+    pub fn any(sizes: Sizes, rng: &mut Rng) -> Spare {
+        Spare { zones: any(sizes.zones, rng), tree: any(sizes.tree, rng), owners: any(sizes.owners, rng) }
+    }
+
+    /// The memories, to be lent.
+    pub fn rooms(&mut self) -> SpareRooms<'_> {
+        SpareRooms {
+            zones: self.zones.words_mut(),
+            tree: self.tree.words_mut(),
+            owners: self.owners.words_mut(),
+        }
+    }
+
+    /// What stands around them is as it was.
+    pub fn is_kept_around(&self) -> Result<(), String> {
+        self.zones.is_kept_around()?;
+        self.tree.is_kept_around()?;
+        self.owners.is_kept_around()
+    }
+}
+
 /// So many random words or bytes.
-fn any<T: Cell>(len: usize, rng: &mut Rng) -> Lent<T> {
+pub fn any<T: Cell>(len: usize, rng: &mut Rng) -> Lent<T> {
     let words: Vec<T> = (0..len).map(|_| T::of_bits(rng.bits())).collect();
     Lent::new(&words, rng)
 }
@@ -99,7 +130,7 @@ impl Memory {
     /// The answer to the request of the machine that has a number. A refusal must not write a value.
     pub fn ask<S: Machines>(&mut self, number: u64, request: Request) -> Answer {
         let mut value = UNWRITTEN;
-        let code = self.code::<S>(number, request, &mut value);
+        let code = ask::<S>(self.rooms(), number, request, &mut value);
         match (code, value) {
             (0, UNWRITTEN) => Ok(None),
             (0, value) => Ok(Some(value)),
@@ -108,28 +139,14 @@ impl Memory {
         }
     }
 
-    /// Calls the function of a request.
-    fn code<S: Machines>(&mut self, number: u64, request: Request, value: &mut u64) -> u32 {
-        let (table, zones) = (self.table.words(), self.zones.words_mut());
-        let (tree, owners) = (self.tree.words_mut(), self.owners.words_mut());
-        let words = self.words.words_mut();
-        match request {
-            Request::AddZone => S::add_zone(table, zones, number),
-            Request::RemoveZone => S::remove_zone(table, zones, tree, owners, number),
-            Request::RemoveZoneWhole => S::remove_zone_whole(table, zones, tree, owners, words, number),
-            Request::Insert(Which::Processors, region) => S::insert_region(table, zones, number, region),
-            Request::Insert(Which::Devices, region) => S::insert_iommu_region(table, zones, number, region),
-            Request::Remove(Which::Processors, region) => S::remove_region(table, zones, number, region),
-            Request::Remove(Which::Devices, region) => S::remove_iommu_region(table, zones, number, region),
-            Request::Translate { which, addr } => S::translate(table, zones, number, which, addr, value),
-            Request::Alloc => S::alloc(table, zones, tree, owners, words, number, value),
-            Request::Run { size, align_log2 } => {
-                S::alloc_contiguous(table, zones, tree, owners, words, number, size, align_log2, value)
-            }
-            Request::Dealloc { addr } => S::dealloc(table, zones, tree, owners, words, number, addr),
-            Request::DeallocRun { addr, count } => {
-                S::dealloc_contiguous(table, zones, tree, owners, words, number, addr, count)
-            }
+    /// The memories, to do requests in.
+    pub fn rooms(&mut self) -> Rooms<'_> {
+        Rooms {
+            table: self.table.words(),
+            zones: self.zones.words_mut(),
+            tree: self.tree.words_mut(),
+            owners: self.owners.words_mut(),
+            words: self.words.words_mut(),
         }
     }
 

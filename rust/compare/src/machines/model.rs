@@ -46,6 +46,11 @@ impl Model {
         Model { plan: plan.clone(), zones, frames, contents: vec![0; WORDS * plan.usable] }
     }
 
+    /// Everything that changes is as in the other.
+    pub fn same_as(&self, other: &Model) -> bool {
+        self.zones == other.zones && self.frames == other.frames && self.contents == other.contents
+    }
+
     /// The regions that machine m is given.
     pub fn given(&self, m: usize) -> impl Iterator<Item = Region> + '_ {
         self.plan.config.machines[m].regions.iter().map(|&region| region.into())
@@ -171,7 +176,7 @@ impl Model {
 }
 
 /// The kind is one, and so is the set: this is asked before who asks.
-fn is_readable(request: Request) -> Result<(), u32> {
+pub fn is_readable(request: Request) -> Result<(), u32> {
     match request {
         Request::Insert(_, region) | Request::Remove(_, region) if region.kind > 2 => Err(NO_KIND),
         Request::Translate { which, .. } if which > 1 => Err(NO_SET),

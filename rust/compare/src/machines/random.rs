@@ -73,6 +73,12 @@ fn sequence<S: Machines>(extent: Extent, rng: &mut Rng, tally: &mut Tally) -> Re
 
 /// Some request of some machine: mostly one that can be met.
 pub fn question(rng: &mut Rng, model: &Model, mood: Mood) -> (u64, Request) {
+    let (number, m) = asker(rng, model);
+    (number, request(rng, model, m, mood))
+}
+
+/// The number of some machine, now and then one that is none's, and the machine's place.
+pub fn asker(rng: &mut Rng, model: &Model) -> (u64, usize) {
     let machines = &model.plan.config.machines;
     let m = rng.small_below(machines.len().max(1));
     let number = machines.get(m).map_or(0, |machine| u64::from(machine.number));
@@ -80,11 +86,11 @@ pub fn question(rng: &mut Rng, model: &Model, mood: Mood) -> (u64, Request) {
         0 => rng.pick(&[number + 1, number + 65536, number | 1 << 63, u64::MAX, 65535]),
         _ => number,
     };
-    (number, request(rng, model, m, mood))
+    (number, m)
 }
 
 /// Some request of machine m, which there may not be.
-fn request(rng: &mut Rng, model: &Model, m: usize, mood: Mood) -> Request {
+pub fn request(rng: &mut Rng, model: &Model, m: usize, mood: Mood) -> Request {
     let is_present = model.zones.get(m).map_or(false, |zone| zone.present);
     if !is_present && rng.once_in(2) {
         return Request::AddZone;
@@ -178,7 +184,7 @@ fn translation(rng: &mut Rng, model: &Model, m: usize) -> Request {
 }
 
 /// A frame that machine m owns, if it has one and mostly, or any.
-fn its_frame(rng: &mut Rng, model: &Model, m: usize) -> usize {
+pub fn its_frame(rng: &mut Rng, model: &Model, m: usize) -> usize {
     let (from, all) = (rng.small_below(model.plan.usable.max(1)), model.frames.len());
     let its = |k: &usize| model.frames[*k] == State::Owned(m as u8);
     match (from..all).chain(0..from).find(its) {

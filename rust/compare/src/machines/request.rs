@@ -102,6 +102,12 @@ pub const NOT_MAPPED: u32 = 55;
 pub const NO_KIND: u32 = 56;
 pub const NO_SET: u32 = 57;
 
+/// The reasons of calls and sequences, beside those of their requests.
+pub const MALFORMED: u32 = 62;
+pub const BROKEN: u32 = 63;
+pub const FEW_WORDS: u32 = 64;
+pub const SPARE: u32 = 65;
+
 /// The reasons of a start, beside those of the configuration, 32 to 44.
 pub const NOT_FULL: u32 = 1;
 pub const UNMATCHED: u32 = 9;

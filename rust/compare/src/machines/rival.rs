@@ -1,6 +1,7 @@
 //! The machines in good plain Rust over the same memories, changed in place: what the proved functions are
 //! held to for speed, and a second subject of the random runs. It tests what a request names as they do; it
-//! trusts the lengths of its memories and what they hold, and it has no proof.
+//! trusts the lengths of its memories and what they hold, and it has no proof. Where it is lent no words of
+//! frames, it clears none.
 //!
 //! No function is inlined into its caller, as none of the proved archive can be.
 use super::memory::{Sizes, View};
@@ -173,6 +174,14 @@ fn not_its(tree: &[u16], k: usize) -> u32 {
     }
 }
 
+/// Clears these frames, if their words are lent.
+#[inline(always)]
+fn clear(words: &mut [u64], frames: Range<usize>) {
+    if let Some(words) = words.get_mut(WORDS * frames.start..WORDS * frames.end) {
+        words.fill(0);
+    }
+}
+
 /// Machine m gives back frame k, which is cleared first.
 #[inline(always)]
 fn give(tree: &mut [u16], owners: &mut [u8], words: &mut [u64], m: usize, k: usize) -> Result<(), u32> {
@@ -181,7 +190,7 @@ fn give(tree: &mut [u16], owners: &mut [u8], words: &mut [u64], m: usize, k: usi
         Some(owner) if usize::from(*owner) == m => *owner = NOBODY,
         Some(_) => return Err(not_its(tree, k)),
     }
-    words[WORDS * k..WORDS * (k + 1)].fill(0);
+    clear(words, k..k + 1);
     Tree { words: tree }.set_free(k);
     Ok(())
 }
@@ -200,7 +209,7 @@ fn give_run(
         return Err(not_its(tree, run.start + away));
     }
     its.fill(NOBODY);
-    words[WORDS * run.start..WORDS * run.end].fill(0);
+    clear(words, run.clone());
     Tree { words: tree }.insert(run.start, run.end);
     Ok(())
 }
@@ -214,7 +223,7 @@ fn give_all(tree: &mut [u16], owners: &mut [u8], words: &mut [u64], m: usize) {
         let its = owners[from..].iter().position(|&owner| usize::from(owner) != m);
         k = its.map_or(owners.len(), |its| from + its);
         owners[from..k].fill(NOBODY);
-        words[WORDS * from..WORDS * k].fill(0);
+        clear(words, from..k);
         Tree { words: &mut *tree }.insert(from, k);
     }
 }

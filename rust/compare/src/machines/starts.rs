@@ -93,8 +93,7 @@ fn one<S: Machines>(bytes: &[u8], sizes: Sizes, rng: &mut Rng) -> Result<u32, St
     }
     memory.is_kept_around().map_err(named)?;
     let model = reading::sound(memory.view()).map_err(named)?;
-    let fresh = Model::new(&model.plan);
-    if model.zones != fresh.zones || model.frames != fresh.frames || model.contents != fresh.contents {
+    if !model.same_as(&Model::new(&model.plan)) {
         return Err(named("a start that is not the start".to_string()));
     }
     Ok(told)

@@ -1,10 +1,11 @@
 //! Times the proved functions on the same requests as the rival, interleaved, and prints a line for each row.
+use super::call_timing;
 use super::configs::{truck, DEVICE, ORDINARY};
-use super::memory::{Memory, Sizes};
+use super::memory::{Memory, Sizes, Spare};
 use super::model::{Model, Plan};
 use super::request::{Region, Request, BOTH};
 use super::rival::Rival;
-use super::subject::Machines;
+use super::subject::{Calls, Machines};
 use crate::config_plain::{self, bytes, Config, Machine};
 use crate::ours::machines::Ours;
 use crate::rng::Rng;
@@ -13,7 +14,7 @@ use crate::timing::ROUNDS;
 use std::time::Instant;
 
 /// The machine that asks, the last of four.
-const ASKER: u64 = 4;
+pub const ASKER: u64 = 4;
 /// The regions that its sets have.
 const SETS: [usize; 3] = [1, 8, 32];
 /// How often work is done in a round, each time from a start on, and about how many requests it has.
@@ -23,23 +24,23 @@ const REQUESTS: usize = 4_000;
 const FRAMES: usize = 1024;
 /// Where a machine is removed whole: how many frames there are, how many of them are usable, and how many
 /// each run has that it or another machine owns.
-const WHOLE: usize = 1 << 20;
+pub const WHOLE: usize = 1 << 20;
 const WHOLE_USABLE: usize = 1 << 16;
 const WHOLE_RUN: usize = 8;
 /// The machines that own the runs beside the asker or without it.
-const OTHERS: [u64; 2] = [1, 2];
+pub const OTHERS: [u64; 2] = [1, 2];
 
 /// Work for either column. It says how many requests it made, and the sum of what they answered.
-trait Work {
+pub trait Work {
     /// The plan of its memories.
     fn plan(&self) -> &Plan;
     /// What is done before the clock runs.
-    fn prepare<S: Machines>(&self, memory: &mut Memory);
-    fn run<S: Machines>(&self, memory: &mut Memory) -> (usize, u64);
+    fn prepare<S: Calls>(&self, memory: &mut Memory);
+    fn run<S: Calls>(&self, memory: &mut Memory, spare: &mut Spare) -> (usize, u64);
 }
 
 /// Four machines, each with so many regions, and frames for all to take.
-fn plan(regions: usize) -> Plan {
+pub fn plan(regions: usize) -> Plan {
     let at = |slot: usize| (FRAME * 4 * slot) as u64;
     let kind = |i: usize| if i % 4 == 0 { DEVICE } else { ORDINARY };
     let region = |m: usize, i: usize| config_plain::Region {
@@ -55,12 +56,12 @@ fn plan(regions: usize) -> Plan {
 }
 
 /// The regions of the asker, in the order of their guest starts.
-fn regions(plan: &Plan) -> Vec<Region> {
+pub fn regions(plan: &Plan) -> Vec<Region> {
     plan.config.machines[ASKER as usize - 1].regions.iter().map(|&region| region.into()).collect()
 }
 
 /// The asker is there, and its processors' set has all its regions.
-fn fill<S: Machines>(memory: &mut Memory, plan: &Plan) {
+pub fn fill<S: Machines>(memory: &mut Memory, plan: &Plan) {
     let requests = regions(plan).into_iter().map(|region| Request::Insert(BOTH[0], region));
     for request in [Request::AddZone].into_iter().chain(requests) {
         assert_eq!(memory.ask::<S>(ASKER, request), Ok(None), "{request:?}");
@@ -110,9 +111,9 @@ impl Work for Truck {
         &self.plan
     }
 
-    fn prepare<S: Machines>(&self, _: &mut Memory) {}
+    fn prepare<S: Calls>(&self, _: &mut Memory) {}
 
-    fn run<S: Machines>(&self, memory: &mut Memory) -> (usize, u64) {
+    fn run<S: Calls>(&self, memory: &mut Memory, _: &mut Spare) -> (usize, u64) {
         let (times, mut sum) = (REQUESTS / self.requests.len(), 0);
         for _ in 0..times {
             for &(number, request) in &self.requests {
@@ -143,11 +144,11 @@ impl Work for RemoveInsert {
         &self.plan
     }
 
-    fn prepare<S: Machines>(&self, memory: &mut Memory) {
+    fn prepare<S: Calls>(&self, memory: &mut Memory) {
         fill::<S>(memory, &self.plan);
     }
 
-    fn run<S: Machines>(&self, memory: &mut Memory) -> (usize, u64) {
+    fn run<S: Calls>(&self, memory: &mut Memory, _: &mut Spare) -> (usize, u64) {
         let times = REQUESTS / (2 * self.regions.len());
         let (table, zones) = (memory.table.words(), memory.zones.words_mut());
         let mut refused = 0;
@@ -182,11 +183,11 @@ impl Work for Translate {
         &self.plan
     }
 
-    fn prepare<S: Machines>(&self, memory: &mut Memory) {
+    fn prepare<S: Calls>(&self, memory: &mut Memory) {
         fill::<S>(memory, &self.plan);
     }
 
-    fn run<S: Machines>(&self, memory: &mut Memory) -> (usize, u64) {
+    fn run<S: Calls>(&self, memory: &mut Memory, _: &mut Spare) -> (usize, u64) {
         let (table, zones) = (memory.table.words(), memory.zones.words());
         let mut sum = 0;
         for &addr in &self.addresses {
@@ -207,11 +208,11 @@ impl Work for Take {
         &self.plan
     }
 
-    fn prepare<S: Machines>(&self, memory: &mut Memory) {
+    fn prepare<S: Calls>(&self, memory: &mut Memory) {
         fill::<S>(memory, &self.plan);
     }
 
-    fn run<S: Machines>(&self, memory: &mut Memory) -> (usize, u64) {
+    fn run<S: Calls>(&self, memory: &mut Memory, _: &mut Spare) -> (usize, u64) {
         let sum = (0..FRAMES).map(|_| memory.ask::<S>(ASKER, Request::Alloc).expect("a free frame"));
         (FRAMES, sum.flatten().sum())
     }
@@ -227,13 +228,13 @@ impl Work for GiveBack {
         &self.plan
     }
 
-    fn prepare<S: Machines>(&self, memory: &mut Memory) {
+    fn prepare<S: Calls>(&self, memory: &mut Memory) {
         fill::<S>(memory, &self.plan);
         let all = Request::Run { size: FRAMES, align_log2: 0 };
         assert_eq!(memory.ask::<S>(ASKER, all), Ok(Some(self.plan.config.pool.0)), "all frames");
     }
 
-    fn run<S: Machines>(&self, memory: &mut Memory) -> (usize, u64) {
+    fn run<S: Calls>(&self, memory: &mut Memory, _: &mut Spare) -> (usize, u64) {
         let pool = self.plan.config.pool.0 as usize;
         for k in 0..FRAMES {
             let answer = memory.ask::<S>(ASKER, Request::Dealloc { addr: pool + FRAME * k });
@@ -244,14 +245,14 @@ impl Work for GiveBack {
 }
 
 /// The asker is removed whole, while two machines own all usable frames in alternate runs.
-struct RemoveWhole {
+pub struct RemoveWhole {
     plan: Plan,
     owners: [u64; 2],
 }
 
 impl RemoveWhole {
     /// These machines own the frames.
-    fn new(owners: [u64; 2]) -> RemoveWhole {
+    pub fn new(owners: [u64; 2]) -> RemoveWhole {
         let mut plan = Plan { frames: WHOLE, usable: WHOLE_USABLE, ..plan(8) };
         plan.config.pool.1 = WHOLE as u64;
         RemoveWhole { plan, owners }
@@ -263,7 +264,7 @@ impl Work for RemoveWhole {
         &self.plan
     }
 
-    fn prepare<S: Machines>(&self, memory: &mut Memory) {
+    fn prepare<S: Calls>(&self, memory: &mut Memory) {
         fill::<S>(memory, &self.plan);
         for number in OTHERS {
             assert_eq!(memory.ask::<S>(number, Request::AddZone), Ok(None), "another machine");
@@ -275,21 +276,21 @@ impl Work for RemoveWhole {
         }
     }
 
-    fn run<S: Machines>(&self, memory: &mut Memory) -> (usize, u64) {
+    fn run<S: Calls>(&self, memory: &mut Memory, _: &mut Spare) -> (usize, u64) {
         assert_eq!(memory.ask::<S>(ASKER, Request::RemoveZoneWhole), Ok(None), "the asker is there");
         (1, 0)
     }
 }
 
 /// The nanoseconds for one request, and what was answered.
-fn time<S: Machines, W: Work>(work: &W, memory: &mut Memory) -> (f64, u64) {
+fn time<S: Calls, W: Work>(work: &W, memory: &mut Memory, spare: &mut Spare) -> (f64, u64) {
     let bytes = bytes(&work.plan().config);
     let (mut nanoseconds, mut requests, mut sum) = (0, 0, 0);
     for _ in 0..REPEATS {
         assert_eq!(memory.start::<S>(&bytes), 0, "a start");
         work.prepare::<S>(memory);
         let began = Instant::now();
-        let (made, answered) = work.run::<S>(memory);
+        let (made, answered) = work.run::<S>(memory, spare);
         nanoseconds += began.elapsed().as_nanos();
         requests += made;
         sum += answered;
@@ -298,11 +299,13 @@ fn time<S: Machines, W: Work>(work: &W, memory: &mut Memory) -> (f64, u64) {
 }
 
 /// Times a row and prints its line.
-fn row<W: Work>(name: &str, work: W) {
+pub fn row<W: Work>(name: &str, work: W) {
     let mut memory = Memory::any(Sizes::of(work.plan()), &mut Rng::new(1));
+    let mut spare = Spare::any(memory.sizes(), &mut Rng::new(2));
     let (mut ours, mut rival) = (f64::MAX, f64::MAX);
     for _ in 0..ROUNDS {
-        let (mine, theirs) = (time::<Ours, W>(&work, &mut memory), time::<Rival, W>(&work, &mut memory));
+        let mine = time::<Ours, W>(&work, &mut memory, &mut spare);
+        let theirs = time::<Rival, W>(&work, &mut memory, &mut spare);
         assert_eq!(mine.1, theirs.1, "{name}: the rival gives other answers");
         ours = ours.min(mine.0);
         rival = rival.min(theirs.0);
@@ -328,6 +331,7 @@ pub fn run() {
         RemoveWhole::new([ASKER, OTHERS[0]]),
     );
     row("a machine removed whole, 1M frames, none its own", RemoveWhole::new(OTHERS));
+    call_timing::rows();
     println!();
-    println!("Nanoseconds for one request of the row, the least of {ROUNDS} interleaved rounds.");
+    println!("Nanoseconds for one request or list of the row, the least of {ROUNDS} interleaved rounds.");
 }

@@ -1,11 +1,13 @@
-//! A subject and the model side by side: each request is put to both, and after it the answers and what the
-//! memories mean are compared, and no page is reached by whom it should not.
-use super::memory::{Memory, Sizes};
+//! A subject and the model side by side: each request or call is put to both, and after it the answers and
+//! what the memories mean are compared, and no page is reached by whom it should not.
+use super::bytes::{self, Call};
+use super::calls::Reply;
+use super::memory::{Memory, Sizes, Spare};
 use super::model::{Model, Plan};
 use super::request::{said, Answer, Request};
-use super::subject::Machines;
+use super::subject::{Calls, Machines};
 use super::{reach, reading};
-use crate::config_plain::bytes;
+use crate::config_plain;
 use crate::report::grouped;
 use crate::rng::Rng;
 use crate::shared::request::{State, FRAME, WORDS};
@@ -57,6 +59,7 @@ impl fmt::Display for Tally {
 pub struct Trial<S> {
     pub model: Model,
     pub memory: Memory,
+    pub spare: Spare,
     /// The words of the configuration's table, which no request changes.
     table: Vec<u64>,
     subject: PhantomData<S>,
@@ -68,10 +71,11 @@ impl<S: Machines> Trial<S> {
         let mut trial = Trial {
             model: Model::new(plan),
             memory: Memory::any(Sizes::of(plan), rng),
+            spare: Spare::any(Sizes::of(plan), rng),
             table: reading::table(&plan.config),
             subject: PhantomData,
         };
-        match trial.memory.start::<S>(&bytes(&plan.config)) {
+        match trial.memory.start::<S>(&config_plain::bytes(&plan.config)) {
             0 => trial.look_at_all(&mut Tally::default()).map(|()| trial),
             code => Err(format!("the start is refused with {code}")),
         }
@@ -194,5 +198,44 @@ impl<S: Machines> Trial<S> {
             self.memory.words.words_mut()[at] = word;
             self.model.contents[at] = word;
         }
+    }
+}
+
+impl<S: Calls> Trial<S> {
+    /// A call of the machine that has a number, and the comparison after it: where it is refused, every word
+    /// and byte is as before.
+    pub fn call(&mut self, number: u64, bytes: &[u8], tally: &mut Tally) -> Result<Reply, String> {
+        let before = self.memory.clone();
+        let meant = self.model.serve(number, bytes);
+        tally.add(if meant.code == 0 { Ok(meant.address) } else { Err(meant.code) });
+        let told = self.memory.serve::<S>(&mut self.spare, number, bytes)?;
+        if told != meant {
+            return Err(format!("{} replies {told:x?}, and the model {meant:x?}", S::NAME));
+        }
+        if told.code != 0 {
+            return self.memory.same_as(&before).map(|()| told);
+        }
+        tally.frames += taken(bytes);
+        self.same_meaning()?;
+        self.same_contents(0..self.model.plan.usable)?;
+        reach::isolated(self.memory.view())?;
+        if tally.requests % CHECK_EVERY == 0 {
+            self.is_sound(tally)?;
+        }
+        Ok(told)
+    }
+}
+
+/// How many frames a call takes that is done.
+fn taken(bytes: &[u8]) -> u64 {
+    let by_one = |request| match request {
+        Request::Alloc => 1,
+        Request::Run { size, .. } => size as u64,
+        _ => 0,
+    };
+    match bytes::call(bytes) {
+        Ok(Call::One(request)) => by_one(request),
+        Ok(Call::List(requests)) => requests.into_iter().map(by_one).sum(),
+        Err(_) => 0,
     }
 }

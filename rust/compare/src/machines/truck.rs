@@ -16,31 +16,31 @@ use crate::rng::Rng;
 use Which::{Devices, Processors};
 
 /// The truck's machines by their numbers, and a number that is none's.
-const REPLAY: u64 = 1;
-const GRAPHICS: u64 = 2;
+pub const REPLAY: u64 = 1;
+pub const GRAPHICS: u64 = 2;
 const SOUND: u64 = 3;
 const COMMENTARY: u64 = 4;
 const NOBODYS: u64 = 5;
 /// Where the pictures are, and the allocator's first page.
 const PICTURES: u64 = 0x900;
-const POOL: u64 = 0x10000;
+pub const POOL: u64 = 0x10000;
 
 /// A trial whose answers are known beforehand.
-struct Known<S> {
-    trial: Trial<S>,
-    tally: Tally,
-    rng: Rng,
+pub struct Known<S> {
+    pub trial: Trial<S>,
+    pub tally: Tally,
+    pub rng: Rng,
 }
 
 impl<S: Machines> Known<S> {
     /// The start of a plan.
-    fn new(plan: &Plan) -> Result<Known<S>, String> {
+    pub fn new(plan: &Plan) -> Result<Known<S>, String> {
         let mut rng = Rng::new(11);
         Ok(Known { trial: Trial::new(plan, &mut rng)?, tally: Tally::default(), rng })
     }
 
     /// A request that must be answered so.
-    fn ask(&mut self, number: u64, request: Request, wanted: Answer) -> Result<(), String> {
+    pub fn ask(&mut self, number: u64, request: Request, wanted: Answer) -> Result<(), String> {
         let answer = self.trial.step(number, request, &mut self.tally)?;
         if answer == wanted {
             return Ok(());
@@ -49,7 +49,7 @@ impl<S: Machines> Known<S> {
     }
 
     /// A request that must be met.
-    fn done(&mut self, number: u64, request: Request) -> Result<(), String> {
+    pub fn done(&mut self, number: u64, request: Request) -> Result<(), String> {
         self.ask(number, request, Ok(None))
     }
 
@@ -59,7 +59,7 @@ impl<S: Machines> Known<S> {
     }
 
     /// A run that must begin with frame k.
-    fn run(&mut self, number: u64, size: usize, align_log2: usize, k: u64) -> Result<(), String> {
+    pub fn run(&mut self, number: u64, size: usize, align_log2: usize, k: u64) -> Result<(), String> {
         self.ask(number, Request::Run { size, align_log2 }, Ok(Some((POOL + k) << 12)))
     }
 
@@ -73,7 +73,7 @@ impl<S: Machines> Known<S> {
     }
 
     /// Region i of the machine that has a number, which is its place and one more.
-    fn region(&self, number: u64, i: usize) -> Region {
+    pub fn region(&self, number: u64, i: usize) -> Region {
         self.trial.model.plan.config.machines[number as usize - 1].regions[i].into()
     }
 }
@@ -84,7 +84,7 @@ fn back(k: u64, count: usize) -> Request {
 }
 
 /// The frame at an address some bytes behind frame k.
-fn back_one(k: u64, behind: usize) -> Request {
+pub fn back_one(k: u64, behind: usize) -> Request {
     Request::Dealloc { addr: ((POOL + k) << 12) as usize + behind }
 }
 

@@ -1,0 +1,2 @@
+-- What a copy is.
+pub mod Laws

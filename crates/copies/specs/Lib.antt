@@ -1,0 +1,2 @@
+-- What is copied.
+pub mod Copying

@@ -1,0 +1,3 @@
+-- `Lives` has how memories go on living, and `EndToEnd` what holds as long as they live.
+pub mod Lives
+pub mod EndToEnd

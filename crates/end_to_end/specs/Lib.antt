@@ -1,0 +1,2 @@
+-- What memories have lived through.
+pub mod Living

@@ -1,0 +1,2 @@
+-- That a machine that is removed whole is served.
+pub mod Laws

@@ -1,0 +1,2 @@
+-- When a call is served.
+pub mod Laws

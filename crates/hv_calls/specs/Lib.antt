@@ -1,0 +1,2 @@
+-- What is replied to a call.
+pub mod Calling

@@ -1,0 +1,2 @@
+-- That a request is served as what it is.
+pub mod Laws

@@ -1,0 +1,2 @@
+-- When a list is served.
+pub mod Laws

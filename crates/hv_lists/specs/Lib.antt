@@ -1,0 +1,2 @@
+-- What it is to serve a list.
+pub mod Listing

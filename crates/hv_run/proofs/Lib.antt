@@ -1,0 +1,2 @@
+-- How many calls were served.
+pub mod Laws

@@ -1,0 +1,2 @@
+-- What came of a sequence of calls.
+pub mod Sequence

@@ -1,0 +1,2 @@
+-- Why there is no lister.
+pub mod Laws

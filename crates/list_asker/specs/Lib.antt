@@ -1,0 +1,2 @@
+-- Whose list it is.
+pub mod Listing

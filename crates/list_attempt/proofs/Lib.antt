@@ -1,0 +1,2 @@
+-- How a list goes on.
+pub mod Laws

@@ -1,0 +1,2 @@
+-- How far a list has gone.
+pub mod Attempting

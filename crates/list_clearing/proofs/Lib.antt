@@ -1,0 +1,2 @@
+-- When words are cleared.
+pub mod Laws

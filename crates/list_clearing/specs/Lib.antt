@@ -1,0 +1,2 @@
+-- Which words are cleared.
+pub mod Clearing

@@ -1,0 +1,2 @@
+-- How a list is carried out.
+pub mod Carrying

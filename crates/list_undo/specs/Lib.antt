@@ -1,0 +1,2 @@
+-- What is left of what was attempted.
+pub mod Undoing

@@ -1,0 +1,2 @@
+-- What three words say.
+pub mod Laws

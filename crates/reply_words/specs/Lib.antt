@@ -1,0 +1,2 @@
+-- The words of a reply.
+pub mod Replies

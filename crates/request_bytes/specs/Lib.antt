@@ -1,0 +1,2 @@
+-- What bytes mean as a request.
+pub mod Requests

@@ -1,0 +1,2 @@
+-- How a sequence goes on.
+pub mod Laws

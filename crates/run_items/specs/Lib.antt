@@ -1,0 +1,2 @@
+-- What a sequence of calls does.
+pub mod Running
