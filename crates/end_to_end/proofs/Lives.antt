@@ -4,11 +4,14 @@ use mathlib.Core.Bool.{true}
 use mathlib.Core.List.{List, [], _∷_, _++_}
 use Prim.Native.Nat.{ℕ, _+_, _*_, _/_}
 use Rattle.owners.specs.States.{State.Owned}
-use Rattle.machine.specs.Lists.{Call, Reply}
+use Rattle.machine.specs.declared.Request.{Request}
+use Rattle.machine.specs.declared.Answer.{Answer}
+use Rattle.machine.specs.Lists.{Call, Call.One, Reply, Reply.Answered}
 use Rattle.machine.specs.Run.{Event, Event.Asks}
 use Rattle.call_bytes.specs.Framing.{Item}
 use Rattle.hv_state.specs.Memory.{Mem, decode}
-use Rattle.hv_state.specs.Serving.{CallServed}
+use Rattle.hv_state.specs.Serving.{Served, CallServed}
+use Rattle.hv_state.proofs.Serving.{one-served}
 use Rattle.hv_calls.specs.declared.Replied.{Replied}
 use Rattle.hv_calls.specs.Calling.{IsCall, ReplySays}
 use Rattle.hv_serve.specs.declared.Called.{Called}
@@ -50,6 +53,10 @@ replied s from len number at answers (Replied.Answered a) l h = one-call number 
 replied s from len number at answers Replied.Done l h = one-call number _ _ l (h .1 .served)
 replied s from len number at answers (Replied.Stopped i a) l h = one-call number _ _ l (h .1)
 replied s from len number at answers (Replied.Malformed i) l h = stays l (h .1)
+
+-- A request by its own function keeps it, whatever it is answered.
+pub lives-requested : (c : List ℕ) (b : Mem) (number : ℕ) (q : Request) (d : Mem) (a : Answer) → Lives c b → Served b number q d a → Lives c d
+lives-requested c b number q d a l v = one-call number (One q) (Answered a) l (one-served b number q d a v)
 
 -- `serve` keeps it, whatever it replies.
 pub lives-served : (c s answers spareZones spareTree spareOwners : List ℕ) (b : Mem) (number : ℕ) (d : Mem) (answers′ : List ℕ) (r : Called) → Lives c b → CalledSays s answers spareZones spareTree spareOwners b number d answers′ r → Lives c d

@@ -32,7 +32,7 @@ pub data IsCall (s : List ℕ) (from len : ℕ) : Call → Type 0 where
   IsOne : Single s from len → IsCall s from len (One (requestAt s from))
   IsList : Several s from len (membersIn len) → IsCall s from len (All (table (memberOf s from) (membersIn len)))
 
--- what is replied; the answers to the members of a list that is done stand in the buffer from `at` on
+-- what is replied; where the memories are sound, the answers to the members of a list that is done stand in the buffer from `at` on
 abbrev pub ReplySays : List ℕ → ℕ → ℕ → Mem → ℕ → Mem → List ℕ → ℕ → Replied → Type 0
 ReplySays s from len b number b′ buffer at (Replied.Answered a) = Single s from len × CallServed b number (One (requestAt s from)) b′ (Reply.Answered a)
 ReplySays s from len b number b′ buffer at Replied.Done = Several s from len (membersIn len) × ListDone b number (memberOf s from) (membersIn len) b′ buffer at

@@ -15,7 +15,7 @@ use request_bytes::Read;
 pub enum Replied {
     // What one request is answered.
     Answered(Answer),
-    // All members of a list were done, and their answers written.
+    // All members of a list were done; where the memories are sound, their answers are written.
     Done,
     // A member of a list is the first that is refused, and what it is answered; nothing was done.
     Stopped(usize, Answer),

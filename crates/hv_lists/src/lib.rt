@@ -13,7 +13,7 @@ use machine::Reason;
 
 // What is replied to a list.
 pub enum Listed {
-    // All requests were done, and their answers written.
+    // All requests were done; where the memories are sound, their answers are written.
     Done,
     // A request is the first that is refused, and what it is answered; nothing was done.
     Stopped(usize, Answer),
