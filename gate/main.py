@@ -2,6 +2,7 @@
 import sys
 from pathlib import Path
 
+import contracts
 import expected_cases
 import rules
 import rust
@@ -16,6 +17,7 @@ CHECKS = [
     selftest.results,
     toolchain.formatted,
     *rules.RULES,
+    *contracts.RULES,
     expected_cases.results,
     toolchain.proved,
     *verdict.RULES,

@@ -3,11 +3,15 @@ find it. No prover is run."""
 import tempfile
 from pathlib import Path
 
+import contracts
 import expected_cases
 import rules
 import toolchain
 import verdict
 from repository import Repository, Result
+
+# The heading of a table of clauses.
+HEAD = "| the original's function | clause | here | how |\n|---|---|---|---|\n"
 
 # A repository in which every rule is content, with what a run of the prover would have left.
 GOOD = {
@@ -15,6 +19,23 @@ GOOD = {
     "interfaces.txt": "# a comment\nopen\n",
     "crates/inner/src/lib.rt": "pub fn low(a: u8) -> u8\n    requires { ⌜ a < 9 ⌝ }\n{\n    a\n}\n",
     "crates/inner/specs/Lib.antt": "-- no axiom\npub mod Words\n",
+    "crates/inner/specs/Words.antt": (
+        "use Prim.Native.Nat.{ℕ, _<_}\n\n-- pub gone : ℕ\nabbrev pub Low : ℕ → Type 0\nLow a = a < 9\n\n"
+        "pub record Fits (a : ℕ) : Type 0 where\n  pub low : Low a\n\npub data Size : Type 0 where\n  Small : Size\n\n"
+        "module _ (a : ℕ) where\n  pub law : Low a → Fits a\n  law l = record { low = l }\n"
+    ),
+    "docs/CONTRACTS.md": (
+        f"# Title\n\n## src/a/b.rs\n\n{HEAD}"
+        "| `Set::get`, `Set::put` | all | `inner::low`, `Fits.low`, `Size.Small`, `law` (crates/inner/specs/Words.antt), `inner` | same |\n"
+        "| `Holds::held` | it holds | none | left out (as for `get`) |\n| `Steps::go`, `Steps::grow`, `top` | it ends | `Low` | stronger (more) |\n"
+    ),
+    "upstream/src--a--b.rs.txt": (
+        "impl<T: Holds> Set<T> where T: Holds {\n    pub open spec fn get(&self) -> nat { 0 }\n    // pub fn gone()\n    pub const fn put(self)\n"
+        "        requires\n            true,\n    {\n    }\n    fn own() {}\n}\n\nimpl<T> Holds for Set<T> {\n    fn held() {}\n}\n\n"
+        "pub trait Holds<T> {\n    fn held();\n}\n\ntokenized_state_machine! {\n    Steps {\n        #[invariant]\n        pub fn go(&self) -> bool { true }\n"
+        "        transition! {\n            grow(n: nat) {\n                require(n > 0);\n            }\n        }\n    }\n}\n"
+        "pub open spec(checked) fn top() -> bool {\n    true\n}\n"
+    ),
     "crates/open/src/lib.rt": (
         "pub use inner::Word;\n// pub fn gone() requires\npub fn one(a: u8) -> u8\n"
         "    ensures { λ r. ⌜ f {A = ℕ} r ⌝ }\n    ensures more { λ r. ⌜ g r ⌝ }\n{\n    a\n}\n\n"
@@ -46,6 +67,9 @@ for label in ("one.a", "one.b", "two.a", "two.b"):
     )
 
 SOURCE = "crates/open/src/lib.rt"
+TABLE = "docs/CONTRACTS.md"
+ORIGINAL = "upstream/src--a--b.rs.txt"
+WORDS = "(crates/inner/specs/Words.antt)"
 LOG = "target/must-fail/open/one.a/.log"
 
 # (the rule, a file, what it holds instead, a part of what the rule must say)
@@ -64,6 +88,17 @@ BAD = [
     (rules.edits_attack_functions, SOURCE, "pub fn one() {}\n", "has no public function two"),
     (rules.edits_keep_the_outline, "crates/open/must-fail/one.a.edit", "file: proofs/one/Proof.antt\nold: a\nnew: b\n", "edits a proof"),
     (rules.edits_keep_the_outline, "crates/open/must-fail/one.a.edit", "file: src/lib.rt\nold: {\nnew: ensures { a } {\n", "adds or drops a clause"),
+    (contracts.cited_names_exist, TABLE, f"## src/a/b.rs\n{HEAD}| `Set::get` | all | `inner::high` | same |\n", "no crate defines it"),
+    (contracts.cited_names_exist, TABLE, f"## src/a/b.rs\n{HEAD}| `Set::get` | all | `gone` | same |\n", "no crate defines it"),
+    (contracts.cited_names_exist, TABLE, f"## src/a/b.rs\n{HEAD}| `Set::get` | all | `Fits.high` {WORDS} | same |\n", "does not define it"),
+    (contracts.cited_names_exist, TABLE, f"## src/a/b.rs\n{HEAD}| `Set::get` | all | `Low` (crates/inner/specs/Gone.antt) | same |\n", "there is no"),
+    (contracts.cited_names_exist, TABLE, f"## src/a/b.rs\n{HEAD}| `Set::get` | all | none | left out (`gone`) |\n", "neither a crate nor the original"),
+    (contracts.original_is_covered, TABLE, f"## src/a/c.rs\n{HEAD}| `Set::get` | all | none | same |\n", "no row names it"),
+    (contracts.original_is_covered, ORIGINAL, "impl Set {\n    pub proof fn more()\n        ensures\n            true,\n    {\n    }\n}\n", "no row names it"),
+    (contracts.original_is_covered, ORIGINAL, "pub trait More {\n    spec fn more() -> bool;\n}\n", "no row names it"),
+    (contracts.original_is_covered, ORIGINAL, "tokenized_state_machine! {\n    Steps {\n        init! { begin() {} }\n    }\n}\n", "no row names it"),
+    (contracts.rows_say_how, TABLE, f"## src/a/b.rs\n{HEAD}| `Set::get` | all | none | perhaps |\n", "does not say how"),
+    (contracts.rows_say_how, TABLE, f"## src/a/b.rs\n{HEAD}| `Set::get` | all | same |\n", "has 3 cells"),
     (expected_cases.results, "crates/bitmap_cases/stdout", "\nwords: 1\ncap: 17\n", "is not what the judge answers"),
     (toolchain.formatted, SOURCE, "pub fn one() { }\n", "not in the layout"),
     (verdict.rests_on_nothing, "target/log/open.out", "logic=proved functions=3 foreign=open::f sum=0\n", "foreign=open::f"),
@@ -117,7 +152,7 @@ def faults(rule, files):
 
 def results(_):
     """Each check of the gate can fail."""
-    for rule in rules.RULES + verdict.RULES + [expected_cases.results, toolchain.formatted]:
+    for rule in rules.RULES + contracts.RULES + verdict.RULES + [expected_cases.results, toolchain.formatted]:
         yield Result(f"{rule.__name__} is content", "; ".join(faults(rule, GOOD)))
     for rule, file, text, said in BAD:
         found = faults(rule, {**GOOD, file: text})

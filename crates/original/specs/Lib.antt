@@ -1,0 +1,2 @@
+-- The original's terms.
+pub mod Terms

@@ -1,0 +1,2 @@
+// The original's clauses in the original's terms, where they follow from the contracts here by an argument.
+// There is no code here: the terms are in specs/, and the arguments in proofs/. docs/CONTRACTS.md cites them.
