@@ -3,6 +3,7 @@ use mathlib.Core.Path.{_≡_, sym, subst}
 use mathlib.Core.List.{List}
 use Prim.Native.Nat.{ℕ, _+_, _*_, _<_}
 use native.Mathlib.Omega.{arith}
+use Rattle.base.specs.Ranges.{Only}
 use Rattle.set_model.specs.Sets.{table}
 use Rattle.machine.specs.declared.Request.{Request}
 use Rattle.machine.specs.declared.Answer.{Answer}
@@ -45,3 +46,6 @@ module _ (s : List ℕ) (from len n : ℕ) (h : Several s from len n) where
 
   pub members-stopped : (b b′ : Mem) (number i : ℕ) (a : Answer) → CallServed b number (All (table (λ i. requestAt s (from + 1 + 33 * i)) n)) b′ (Reply.Stopped i a) → CallServed b number (All (table (memberOf s from) (membersIn len))) b′ (Reply.Stopped i a)
   members-stopped b b′ number i a = as-members (λ f k. CallServed b number (All (table f k)) b′ (Reply.Stopped i a))
+
+  pub members-only : (buffer : List ℕ) (at : ℕ) (buffer′ : List ℕ) → Only buffer at (at + 2 * n) buffer′ → Only buffer at (at + 2 * membersIn len) buffer′
+  members-only buffer at buffer′ o = subst (λ (k : ℕ). Only buffer at (at + 2 * k) buffer′) counted o

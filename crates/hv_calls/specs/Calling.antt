@@ -1,7 +1,7 @@
 -- What is replied to the call in the `len` bytes of s from `from` on: b are the memories before, b′ after. Assumes nothing.
 use mathlib.Core.Path.{_≡_}
 use mathlib.Core.List.{List}
-use Prim.Native.Nat.{ℕ, _-_, _/_}
+use Prim.Native.Nat.{ℕ, _-_, _*_, _/_}
 use lib.ListN.{length}
 use Rattle.set_model.specs.Sets.{table}
 use Rattle.machine.specs.declared.Request.{Request}
@@ -31,6 +31,13 @@ memberOf s from i = requestAt s (memberAt from i)
 pub data IsCall (s : List ℕ) (from len : ℕ) : Call → Type 0 where
   IsOne : Single s from len → IsCall s from len (One (requestAt s from))
   IsList : Several s from len (membersIn len) → IsCall s from len (All (table (memberOf s from) (membersIn len)))
+
+-- how many words for answers a call of `len` bytes may change, by what is replied: two for each member of a list that was attempted
+abbrev pub answerWords : ℕ → Replied → ℕ
+answerWords len (Replied.Answered a) = 0
+answerWords len Replied.Done = 2 * membersIn len
+answerWords len (Replied.Stopped i a) = 2 * membersIn len
+answerWords len (Replied.Malformed i) = 0
 
 -- what is replied; where the memories are sound, the answers to the members of a list that is done stand in the buffer from `at` on
 abbrev pub ReplySays : List ℕ → ℕ → ℕ → Mem → ℕ → Mem → List ℕ → ℕ → Replied → Type 0

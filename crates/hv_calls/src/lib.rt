@@ -3,9 +3,9 @@
 ghost use Prim.Native.Nat.{_+_, _*_, _/_, _≤_};
 ghost use lib.ListN.{length};
 ghost use Rattle.base.specs.Says.{Says};
+ghost use Rattle.base.specs.Ranges.{Only};
 ghost use Rattle.hv_state.specs.Serving.{mem};
-ghost use Rattle.list_attempt.specs.Attempting.{KeptBefore};
-ghost use Rattle.hv_calls.specs.Calling.{SpareFits, ReplySays};
+ghost use Rattle.hv_calls.specs.Calling.{SpareFits, answerWords, ReplySays};
 use call_bytes::Shape;
 use hv_lists::Listed;
 use machine::Answer;
@@ -66,7 +66,7 @@ pub fn serve_call(
     at: usize,
 ) -> Replied
     requires { ⌜ SpareFits (now zones) (now tree) (now owners) (now «spare_zones») (now «spare_tree») (now «spare_owners») × (from + len ≤ length (now bytes)) × (at + 2 * (len / 33) ≤ length (now answers)) ⌝ }
-    ensures { λ r. ⌜ ReplySays (now (bytes .entry)) from len (mem (now (table .entry)) (now (zones .entry)) (now (tree .entry)) (now (owners .entry)) (now (words .entry))) number (mem (now (table .entry)) (now (zones .exit)) (now (tree .exit)) (now (owners .exit)) (now (words .exit))) (now (answers .exit)) at r × KeptBefore (now (answers .entry)) at (now (answers .exit)) ⌝ }
+    ensures { λ r. ⌜ ReplySays (now (bytes .entry)) from len (mem (now (table .entry)) (now (zones .entry)) (now (tree .entry)) (now (owners .entry)) (now (words .entry))) number (mem (now (table .entry)) (now (zones .exit)) (now (tree .exit)) (now (owners .exit)) (now (words .exit))) (now (answers .exit)) at r × Only (now (answers .entry)) at (at + answerWords len r) (now (answers .exit)) ⌝ }
 {
     match call_bytes::shape_of(bytes, from, len) {
         Shape::Malformed(i) => Replied::Malformed(i),

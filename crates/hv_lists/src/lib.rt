@@ -3,8 +3,8 @@
 ghost use mathlib.Core.Path.{_≡_};
 ghost use Prim.Native.Nat.{ℕ, _+_, _*_, _≤_, _<_};
 ghost use lib.ListN.{length};
+ghost use Rattle.base.specs.Ranges.{Only};
 ghost use Rattle.request_bytes.specs.Requests.{requestAt, Means};
-ghost use Rattle.list_attempt.specs.Attempting.{KeptBefore};
 ghost use Rattle.hv_lists.specs.Listing.{toClear, replyTo, ListSays};
 use list_asker::WhoLists;
 use list_attempt::Tried;
@@ -58,7 +58,7 @@ pub fn serve_list(
     at: usize,
 ) -> Listed
     requires { ⌜ (length (now «spare_zones») ≡ length (now zones)) × (length (now «spare_tree») ≡ length (now tree)) × (length (now «spare_owners») ≡ length (now owners)) × (p + 33 * n ≤ length (now bytes)) × (at + 2 * n ≤ length (now answers)) × ((i : ℕ) → i < n → Means (now bytes) (p + 33 * i) (requestAt (now bytes) (p + 33 * i))) ⌝ }
-    ensures { λ r. ⌜ ListSays (now (table .entry)) (now (zones .entry)) (now (tree .entry)) (now (owners .entry)) (now (words .entry)) number (λ i. requestAt (now (bytes .entry)) (p + 33 * i)) n (now (zones .exit)) (now (tree .exit)) (now (owners .exit)) (now (words .exit)) (now (answers .exit)) at r × KeptBefore (now (answers .entry)) at (now (answers .exit)) ⌝ }
+    ensures { λ r. ⌜ ListSays (now (table .entry)) (now (zones .entry)) (now (tree .entry)) (now (owners .entry)) (now (words .entry)) number (λ i. requestAt (now (bytes .entry)) (p + 33 * i)) n (now (zones .exit)) (now (tree .exit)) (now (owners .exit)) (now (words .exit)) (now (answers .exit)) at r × Only (now (answers .entry)) at (at + 2 * n) (now (answers .exit)) ⌝ }
 {
     match list_asker::who_lists(table, tree, owners, words, number) {
         WhoLists::Corrupt => Listed::Stopped(0, Answer::Corrupt),

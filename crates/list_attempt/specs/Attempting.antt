@@ -19,10 +19,6 @@ pub record Told (buffer : List ℕ) (at k : ℕ) (a : Answer) : Type 0 where
   pub code : getD buffer (at + 2 * k) 0 ≡ answerCode a
   pub address : getD buffer (at + 2 * k + 1) 0 ≡ addressIn a 0
 
--- the words of the buffer before `at` are as they were
-abbrev pub KeptBefore : List ℕ → ℕ → List ℕ → Type 0
-KeptBefore buffer at buffer′ = (i : ℕ) → i < at → getD buffer′ i 0 ≡ getD buffer i 0
-
 -- the memories b became b′ by the first i requests, which were all done, and their answers stand in the buffer
 pub record Went (b : Mem) (number : ℕ) (f : ℕ → Request) (i : ℕ) (b′ : Mem) (buffer : List ℕ) (at : ℕ) : Type 0 where
   pub sound : Sound b′

@@ -7,7 +7,7 @@ ghost use Rattle.base.specs.Ranges.{Only};
 ghost use Rattle.machine.specs.Lists.{isDone};
 ghost use Rattle.request_bytes.specs.Requests.{requestAt, Means};
 ghost use Rattle.hv_blind.specs.Blind.{ServedBlind};
-ghost use Rattle.list_attempt.specs.Attempting.{Told, KeptBefore, AttemptSays};
+ghost use Rattle.list_attempt.specs.Attempting.{Told, AttemptSays};
 use machine::Answer;
 use request_bytes::Read;
 
@@ -74,7 +74,7 @@ pub fn attempt_all(
     at: usize,
 ) -> Tried
     requires { ⌜ (p + 33 * n ≤ length (now bytes)) × (at + 2 * n ≤ length (now answers)) × ((i : ℕ) → i < n → Means (now bytes) (p + 33 * i) (requestAt (now bytes) (p + 33 * i))) ⌝ }
-    ensures { λ r. ⌜ AttemptSays (now (table .entry)) (now (zones .entry)) (now (tree .entry)) (now (owners .entry)) number (λ i. requestAt (now (bytes .entry)) (p + 33 * i)) n (now (zones .exit)) (now (tree .exit)) (now (owners .exit)) (now (answers .exit)) at r × KeptBefore (now (answers .entry)) at (now (answers .exit)) ⌝ }
+    ensures { λ r. ⌜ AttemptSays (now (table .entry)) (now (zones .entry)) (now (tree .entry)) (now (owners .entry)) number (λ i. requestAt (now (bytes .entry)) (p + 33 * i)) n (now (zones .exit)) (now (tree .exit)) (now (owners .exit)) (now (answers .exit)) at r × Only (now (answers .entry)) at (at + 2 * n) (now (answers .exit)) ⌝ }
 {
     let mut i = 0;
     while i < n {

@@ -4,8 +4,8 @@
 ghost use mathlib.Core.Path.{_≡_};
 ghost use Prim.Native.Nat.{ℕ, _+_, _*_, _≤_, _<_};
 ghost use lib.ListN.{length};
+ghost use Rattle.base.specs.Ranges.{Only};
 ghost use Rattle.request_bytes.specs.Requests.{requestAt, Means};
-ghost use Rattle.list_attempt.specs.Attempting.{KeptBefore};
 ghost use Rattle.list_undo.specs.Undoing.{UndoneSays};
 use list_attempt::Tried;
 
@@ -44,7 +44,7 @@ pub fn attempt_or_undo(
     at: usize,
 ) -> Tried
     requires { ⌜ (length (now «spare_zones») ≡ length (now zones)) × (length (now «spare_tree») ≡ length (now tree)) × (length (now «spare_owners») ≡ length (now owners)) × (p + 33 * n ≤ length (now bytes)) × (at + 2 * n ≤ length (now answers)) × ((i : ℕ) → i < n → Means (now bytes) (p + 33 * i) (requestAt (now bytes) (p + 33 * i))) ⌝ }
-    ensures { λ r. ⌜ (now («spare_tree» .exit) ≡ now (tree .entry)) × (now («spare_owners» .exit) ≡ now (owners .entry)) × UndoneSays (now (table .entry)) (now (zones .entry)) (now (tree .entry)) (now (owners .entry)) number (λ i. requestAt (now (bytes .entry)) (p + 33 * i)) n (now (zones .exit)) (now (tree .exit)) (now (owners .exit)) (now (answers .exit)) at r × KeptBefore (now (answers .entry)) at (now (answers .exit)) ⌝ }
+    ensures { λ r. ⌜ (now («spare_tree» .exit) ≡ now (tree .entry)) × (now («spare_owners» .exit) ≡ now (owners .entry)) × UndoneSays (now (table .entry)) (now (zones .entry)) (now (tree .entry)) (now (owners .entry)) number (λ i. requestAt (now (bytes .entry)) (p + 33 * i)) n (now (zones .exit)) (now (tree .exit)) (now (owners .exit)) (now (answers .exit)) at r × Only (now (answers .entry)) at (at + 2 * n) (now (answers .exit)) ⌝ }
 {
     copy_all(zones, tree, owners, spare_zones, spare_tree, spare_owners);
     match list_attempt::attempt_all(table, zones, tree, owners, number, bytes, p, n, answers, at) {

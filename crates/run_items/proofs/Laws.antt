@@ -6,13 +6,13 @@ use lib.ListN.{length}
 use native.Mathlib.Omega.{arith}
 use Rattle.config_bytes.specs.Fields.{le64}
 use Rattle.machine.specs.declared.Answer.{Answer}
-use Rattle.list_attempt.specs.Attempting.{Told, KeptBefore}
+use Rattle.list_attempt.specs.Attempting.{Told}
 use Rattle.call_bytes.specs.Framing.{Item, itemAt, behind, Framed, Framed.Ends, Framed.Goes}
 use Rattle.hv_state.specs.Memory.{Mem}
 use Rattle.hv_calls.specs.declared.Replied.{Replied}
 use Rattle.hv_calls.specs.Calling.{SpareFits, membersIn, ReplySays}
 use Rattle.reply_words.specs.Replies.{Wrote}
-use Rattle.run_items.specs.Running.{ItemServed, Performed, Performed.Over, Performed.Next, Transcript}
+use Rattle.run_items.specs.Running.{KeptBefore, ItemServed, Performed, Performed.Over, Performed.Next, Transcript}
 
 -- the items from p on
 pub record Ahead (s : List ℕ) (p : ℕ) : Type 0 where

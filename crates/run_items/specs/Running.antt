@@ -1,15 +1,20 @@
 -- What a sequence of calls does: s are its bytes, and `replies` and `answers` the words that were lent for what is replied, as they are at the
 -- end. Assumes nothing.
+use mathlib.Core.Path.{_≡_}
 use mathlib.Core.List.{List, [], _∷_}
-use Prim.Native.Nat.{ℕ, _+_, _*_, _/_}
+use Prim.Native.Nat.{ℕ, _+_, _*_, _/_, _<_}
+use lib.ListN.{getD}
 use Rattle.base.specs.Ranges.{Only}
 use Rattle.config_bytes.specs.Fields.{le64}
-use Rattle.list_attempt.specs.Attempting.{KeptBefore}
 use Rattle.call_bytes.specs.Framing.{Item, Framed}
 use Rattle.hv_state.specs.Memory.{Mem}
 use Rattle.hv_calls.specs.declared.Replied.{Replied}
 use Rattle.hv_calls.specs.Calling.{ReplySays}
 use Rattle.reply_words.specs.Replies.{Wrote}
+
+-- the words of the buffer before `at` are as they were
+abbrev pub KeptBefore : List ℕ → ℕ → List ℕ → Type 0
+KeptBefore buffer at buffer′ = (i : ℕ) → i < at → getD buffer′ i 0 ≡ getD buffer i 0
 
 -- the item at p was served: its reply stands in the three words from r on, and no answer before `at` changed
 pub record ItemServed (s : List ℕ) (p : ℕ) (b b′ : Mem) (replies : List ℕ) (r : ℕ) (replies′ answers : List ℕ) (at : ℕ) (answers′ : List ℕ) : Type 0 where

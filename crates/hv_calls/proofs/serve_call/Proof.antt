@@ -8,7 +8,7 @@ use Rattle.base.proofs.Says.{told}
 use Rattle.request_bytes.specs.Requests.{requestAt, ReadSays}
 use Rattle.call_bytes.specs.Calls.{ShapeSays}
 use Rattle.hv_lists.specs.Listing.{ListSays}
-use Rattle.hv_calls.proofs.Laws.{request-served, each-means, as-several, members-done, members-stopped}
+use Rattle.hv_calls.proofs.Laws.{request-served, each-means, as-several, members-done, members-stopped, members-only}
 
 shape-of-requires : tie.Need-shape-of-requires
 shape-of-requires c κs = c .before .before .before .before .before .before .before .before .before .before .pre .1
@@ -47,7 +47,7 @@ enum-known-i-2 : tie.Need-enum-known-i-2
 enum-known-i-2 c = search needs
 
 returns : tie.Need-returns
-returns c = ((told (ShapeSays _ _ _) (c .before .i .given .1) (c .before .before .before .shape-of .ensures), refl), λ i l. refl)
+returns c = ((told (ShapeSays _ _ _) (c .before .i .given .1) (c .before .before .before .shape-of .ensures), refl), record { long = refl; others = λ i d. refl })
 
 returns-2 : tie.Need-returns-2
 returns-2 c = absurd (told (ReadSays _ _) (c .enum-told2 .given .1) (c .before .before .read-at .ensures) (requestAt (c .before .before .before .before .before .before .before .before .before .before .before .before .before .before .before .before .args .bytes .now) (c .before .before .before .before .before .before .before .before .before .before .before .before .before .before .before .before .args .from)) (told (ShapeSays _ _ _) (c .before .before .before .enum-told .given .1) (c .before .before .before .before .before .shape-of .ensures) .right))
@@ -65,7 +65,7 @@ same-length-4 : tie.Need-same-length-4
 same-length-4 c = search needs
 
 returns-3 : tie.Need-returns-3
-returns-3 c = ((told (ShapeSays _ _ _) (c .before .before .before .before .before .before .before .before .before .before .before .before .before .before .before .before .before .enum-told .given .1) (c .before .before .before .before .before .before .before .before .before .before .before .before .before .before .before .before .before .before .before .shape-of .ensures), request-served _ _ _ _ _ _ (told (ReadSays _ _) (c .before .before .before .before .before .before .before .before .before .before .before .before .before .before .q .given .1) (c .before .before .before .before .before .before .before .before .before .before .before .before .before .before .before .before .read-at .ensures) .0) (c .before .before .before .before .before .before .before .before .serve-request .ensures)), λ i l. refl)
+returns-3 c = ((told (ShapeSays _ _ _) (c .before .before .before .before .before .before .before .before .before .before .before .before .before .before .before .before .before .enum-told .given .1) (c .before .before .before .before .before .before .before .before .before .before .before .before .before .before .before .before .before .before .before .shape-of .ensures), request-served _ _ _ _ _ _ (told (ReadSays _ _) (c .before .before .before .before .before .before .before .before .before .before .before .before .before .before .q .given .1) (c .before .before .before .before .before .before .before .before .before .before .before .before .before .before .before .before .read-at .ensures) .0) (c .before .before .before .before .before .before .before .before .serve-request .ensures)), record { long = refl; others = λ i d. refl })
 
 same-length-5 : tie.Need-same-length-5
 same-length-5 c = search needs
@@ -92,7 +92,7 @@ same-length-12 : tie.Need-same-length-12
 same-length-12 c = search needs
 
 returns-4 : tie.Need-returns-4
-returns-4 c = let h = told (ShapeSays _ _ _) (c .before .before .before .before .before .before .before .before .before .before .before .before .before .before .before .before .before .before .before .before .before .before .before .before .before .before .before .before .n .given .1) (c .before .before .before .before .before .before .before .before .before .before .before .before .before .before .before .before .before .before .before .before .before .before .before .before .before .before .before .before .before .before .shape-of .ensures) in ((as-several _ _ _ _ h, members-done (c .before .before .before .before .before .before .before .before .before .before .before .before .before .before .before .before .before .before .before .before .before .before .before .before .before .before .before .before .before .before .before .before .before .before .before .before .before .before .before .before .before .args .bytes .now) (c .before .before .before .before .before .before .before .before .before .before .before .before .before .before .before .before .before .before .before .before .before .before .before .before .before .before .before .before .before .before .before .before .before .before .before .before .before .before .before .before .before .args .from) _ _ h _ _ _ _ _ (told (ListSays _ _ _ _ _ _ _ _ _ _ _ _ _ _) (c .enum-told3 .given .1) (c .before .before .before .before .before .before .before .before .before .before .before .before .before .before .before .before .before .before .serve-list .ensures .0))), c .before .before .before .before .before .before .before .before .before .before .before .before .before .before .before .before .before .before .serve-list .ensures .1)
+returns-4 c = let h = told (ShapeSays _ _ _) (c .before .before .before .before .before .before .before .before .before .before .before .before .before .before .before .before .before .before .before .before .before .before .before .before .before .before .before .before .n .given .1) (c .before .before .before .before .before .before .before .before .before .before .before .before .before .before .before .before .before .before .before .before .before .before .before .before .before .before .before .before .before .before .shape-of .ensures) in ((as-several _ _ _ _ h, members-done (c .before .before .before .before .before .before .before .before .before .before .before .before .before .before .before .before .before .before .before .before .before .before .before .before .before .before .before .before .before .before .before .before .before .before .before .before .before .before .before .before .before .args .bytes .now) (c .before .before .before .before .before .before .before .before .before .before .before .before .before .before .before .before .before .before .before .before .before .before .before .before .before .before .before .before .before .before .before .before .before .before .before .before .before .before .before .before .before .args .from) _ _ h _ _ _ _ _ (told (ListSays _ _ _ _ _ _ _ _ _ _ _ _ _ _) (c .enum-told3 .given .1) (c .before .before .before .before .before .before .before .before .before .before .before .before .before .before .before .before .before .before .serve-list .ensures .0))), members-only (c .before .before .before .before .before .before .before .before .before .before .before .before .before .before .before .before .before .before .before .before .before .before .before .before .before .before .before .before .before .before .before .before .before .before .before .before .before .before .before .before .before .args .bytes .now) (c .before .before .before .before .before .before .before .before .before .before .before .before .before .before .before .before .before .before .before .before .before .before .before .before .before .before .before .before .before .before .before .before .before .before .before .before .before .before .before .before .before .args .from) _ _ h _ _ _ (c .before .before .before .before .before .before .before .before .before .before .before .before .before .before .before .before .before .before .serve-list .ensures .1))
 
 same-length-13 : tie.Need-same-length-13
 same-length-13 c = search needs
@@ -119,7 +119,7 @@ same-length-20 : tie.Need-same-length-20
 same-length-20 c = search needs
 
 returns-5 : tie.Need-returns-5
-returns-5 c = let h = told (ShapeSays _ _ _) (c .before .before .before .before .before .before .before .before .before .before .before .before .before .before .before .before .before .before .before .before .before .before .before .before .before .before .before .before .before .n .given .1) (c .before .before .before .before .before .before .before .before .before .before .before .before .before .before .before .before .before .before .before .before .before .before .before .before .before .before .before .before .before .before .before .shape-of .ensures) in ((as-several _ _ _ _ h, members-stopped (c .before .before .before .before .before .before .before .before .before .before .before .before .before .before .before .before .before .before .before .before .before .before .before .before .before .before .before .before .before .before .before .before .before .before .before .before .before .before .before .before .before .before .args .bytes .now) (c .before .before .before .before .before .before .before .before .before .before .before .before .before .before .before .before .before .before .before .before .before .before .before .before .before .before .before .before .before .before .before .before .before .before .before .before .before .before .before .before .before .before .args .from) _ _ h _ _ _ _ _ (told (ListSays _ _ _ _ _ _ _ _ _ _ _ _ _ _) (c .before .i2 .given .1) (c .before .before .before .before .before .before .before .before .before .before .before .before .before .before .before .before .before .before .before .serve-list .ensures .0))), c .before .before .before .before .before .before .before .before .before .before .before .before .before .before .before .before .before .before .before .serve-list .ensures .1)
+returns-5 c = let h = told (ShapeSays _ _ _) (c .before .before .before .before .before .before .before .before .before .before .before .before .before .before .before .before .before .before .before .before .before .before .before .before .before .before .before .before .before .n .given .1) (c .before .before .before .before .before .before .before .before .before .before .before .before .before .before .before .before .before .before .before .before .before .before .before .before .before .before .before .before .before .before .before .shape-of .ensures) in ((as-several _ _ _ _ h, members-stopped (c .before .before .before .before .before .before .before .before .before .before .before .before .before .before .before .before .before .before .before .before .before .before .before .before .before .before .before .before .before .before .before .before .before .before .before .before .before .before .before .before .before .before .args .bytes .now) (c .before .before .before .before .before .before .before .before .before .before .before .before .before .before .before .before .before .before .before .before .before .before .before .before .before .before .before .before .before .before .before .before .before .before .before .before .before .before .before .before .before .before .args .from) _ _ h _ _ _ _ _ (told (ListSays _ _ _ _ _ _ _ _ _ _ _ _ _ _) (c .before .i2 .given .1) (c .before .before .before .before .before .before .before .before .before .before .before .before .before .before .before .before .before .before .before .serve-list .ensures .0))), members-only (c .before .before .before .before .before .before .before .before .before .before .before .before .before .before .before .before .before .before .before .before .before .before .before .before .before .before .before .before .before .before .before .before .before .before .before .before .before .before .before .before .before .before .args .bytes .now) (c .before .before .before .before .before .before .before .before .before .before .before .before .before .before .before .before .before .before .before .before .before .before .before .before .before .before .before .before .before .before .before .before .before .before .before .before .before .before .before .before .before .before .args .from) _ _ h _ _ _ (c .before .before .before .before .before .before .before .before .before .before .before .before .before .before .before .before .before .before .before .serve-list .ensures .1))
 
 pub serve-call-spec : {M : Type 1} → statement M
 serve-call-spec =

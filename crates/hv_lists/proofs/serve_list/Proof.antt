@@ -29,7 +29,7 @@ same-length-3 : tie.Need-same-length-3
 same-length-3 c = search needs
 
 returns : tie.Need-returns
-returns c = (list-empty _ _ (λ k. requestAt (c .before .before .before .before .before .before .before .before .before .before .before .before .before .before .before .before .before .args .bytes .now) (c .before .before .before .before .before .before .before .before .before .before .before .before .before .before .before .before .before .args .p + 33 * k)) (c .before .before .before .before .before .before .before .before .before .before .before .before .before .before .before .before .before .args .n) _ _ (c .if1 .taken), λ i l. refl)
+returns c = (list-empty _ _ (λ k. requestAt (c .before .before .before .before .before .before .before .before .before .before .before .before .before .before .before .before .before .args .bytes .now) (c .before .before .before .before .before .before .before .before .before .before .before .before .before .before .before .before .before .args .p + 33 * k)) (c .before .before .before .before .before .before .before .before .before .before .before .before .before .before .before .before .before .args .n) _ _ (c .if1 .taken), record { long = refl; others = λ i d. refl })
 
 enum-known-l : tie.Need-enum-known-l
 enum-known-l c = search needs
@@ -56,7 +56,7 @@ same-length-6 : tie.Need-same-length-6
 same-length-6 c = search needs
 
 returns-2 : tie.Need-returns-2
-returns-2 c = (list-corrupt _ _ (λ k. requestAt (c .before .before .before .before .before .before .before .before .before .before .before .before .before .before .before .before .args .bytes .now) (c .before .before .before .before .before .before .before .before .before .before .before .before .before .before .before .before .args .p + 33 * k)) (c .before .before .before .before .before .before .before .before .before .before .before .before .before .before .before .before .args .n) (told (ListerSays _ _ _ _ _) (c .enum-told .given .1) (c .before .before .who-lists .ensures) (c .before .before .before .before .before .before .before .before .before .before .before .before .before .before .before .before .args .zones .now)), λ i l. refl)
+returns-2 c = (list-corrupt _ _ (λ k. requestAt (c .before .before .before .before .before .before .before .before .before .before .before .before .before .before .before .before .args .bytes .now) (c .before .before .before .before .before .before .before .before .before .before .before .before .before .before .before .before .args .p + 33 * k)) (c .before .before .before .before .before .before .before .before .before .before .before .before .before .before .before .before .args .n) (told (ListerSays _ _ _ _ _) (c .enum-told .given .1) (c .before .before .who-lists .ensures) (c .before .before .before .before .before .before .before .before .before .before .before .before .before .before .before .before .args .zones .now)), record { long = refl; others = λ i d. refl })
 
 same-length-7 : tie.Need-same-length-7
 same-length-7 c = search needs
@@ -68,7 +68,7 @@ same-length-9 : tie.Need-same-length-9
 same-length-9 c = search needs
 
 returns-3 : tie.Need-returns-3
-returns-3 c = (list-nobody _ _ (λ k. requestAt (c .before .before .before .before .before .before .before .before .before .before .before .before .before .before .before .before .before .args .bytes .now) (c .before .before .before .before .before .before .before .before .before .before .before .before .before .before .before .before .before .args .p + 33 * k)) (c .before .before .before .before .before .before .before .before .before .before .before .before .before .before .before .before .before .args .n) (omega (arith, c .if1 .left)) (told (ListerSays _ _ _ _ _) (c .before .enum-told2 .given .1) (c .before .before .before .who-lists .ensures)), λ i l. refl)
+returns-3 c = (list-nobody _ _ (λ k. requestAt (c .before .before .before .before .before .before .before .before .before .before .before .before .before .before .before .before .before .args .bytes .now) (c .before .before .before .before .before .before .before .before .before .before .before .before .before .before .before .before .before .args .p + 33 * k)) (c .before .before .before .before .before .before .before .before .before .before .before .before .before .before .before .before .before .args .n) (omega (arith, c .if1 .left)) (told (ListerSays _ _ _ _ _) (c .before .enum-told2 .given .1) (c .before .before .before .who-lists .ensures)), record { long = refl; others = λ i d. refl })
 
 same-length-10 : tie.Need-same-length-10
 same-length-10 c = search needs

@@ -12,13 +12,13 @@ mul-if1 : tie.Need-mul-if1
 mul-if1 c = omega (arith, c .before .before .before .before .before .before .before .before .before .before .before .good)
 
 returns : tie.Need-returns
-returns c = (λ h. (let x = h .forReplies in omega (arith, c .if1 .taken)), refl)
+returns c = (λ h. (let x = h .forReplies in omega (arith, c .if1 .taken)), refl, refl, refl)
 
 mul-if2 : tie.Need-mul-if2
 mul-if2 c = omega (arith, c .before .before .before .before .before .before .before .before .before .before .before .before .good)
 
 returns-2 : tie.Need-returns-2
-returns-2 c = (λ h. (let x = h .forAnswers in omega (arith, c .if2 .taken)), refl)
+returns-2 c = (λ h. (let x = h .forAnswers in omega (arith, c .if2 .taken)), refl, refl, refl)
 
 fits-spare-requires : tie.Need-fits-spare-requires
 fits-spare-requires c κs = search needs
@@ -42,7 +42,7 @@ same-length-6 : tie.Need-same-length-6
 same-length-6 c = search needs
 
 returns-3 : tie.Need-returns-3
-returns-3 c = (record { forReplies = omega (arith, c .before .before .before .before .before .before .before .before .before .if1 .left); forAnswers = omega (arith, c .before .before .before .before .before .before .before .before .if2 .left) }, refused (c .before .fits-spare .result) (c .if3 .taken) (c .before .fits-spare .ensures), refl)
+returns-3 c = (record { forReplies = omega (arith, c .before .before .before .before .before .before .before .before .before .if1 .left); forAnswers = omega (arith, c .before .before .before .before .before .before .before .before .if2 .left) }, refused (c .before .fits-spare .result) (c .if3 .taken) (c .before .fits-spare .ensures), refl, refl, refl)
 
 framing-of-requires : tie.Need-framing-of-requires
 framing-of-requires c κs = search needs
@@ -75,7 +75,7 @@ same-length-12 : tie.Need-same-length-12
 same-length-12 c = search needs
 
 returns-4 : tie.Need-returns-4
-returns-4 c = (record { forReplies = omega (arith, c .before .before .before .before .before .before .before .before .before .before .before .before .before .if1 .left); forAnswers = omega (arith, c .before .before .before .before .before .before .before .before .before .before .before .before .if2 .left) }, not-refused (c .before .before .before .before .before .fits-spare .result) (c .before .before .before .before .if3 .left) (c .before .before .before .before .before .fits-spare .ensures), told (FramingSays _) (c .before .q .given .1) (c .before .before .before .framing-of .ensures), refl)
+returns-4 c = (record { forReplies = omega (arith, c .before .before .before .before .before .before .before .before .before .before .before .before .before .if1 .left); forAnswers = omega (arith, c .before .before .before .before .before .before .before .before .before .before .before .before .if2 .left) }, not-refused (c .before .before .before .before .before .fits-spare .result) (c .before .before .before .before .if3 .left) (c .before .before .before .before .before .fits-spare .ensures), told (FramingSays _) (c .before .q .given .1) (c .before .before .before .framing-of .ensures), refl, refl, refl)
 
 same-length-13 : tie.Need-same-length-13
 same-length-13 c = search needs

@@ -10,7 +10,7 @@ mul-if1 : tie.Need-mul-if1
 mul-if1 c = search needs
 
 returns : tie.Need-returns
-returns c = (omega (arith, c .if1 .taken), refl)
+returns c = (omega (arith, c .if1 .taken), refl, refl)
 
 fits-spare-requires : tie.Need-fits-spare-requires
 fits-spare-requires c κs = search needs
@@ -34,7 +34,7 @@ same-length-6 : tie.Need-same-length-6
 same-length-6 c = search needs
 
 returns-2 : tie.Need-returns-2
-returns-2 c = (omega (arith, c .before .before .before .before .before .before .before .before .if1 .left), refused (c .before .fits-spare .result) (c .if2 .taken) (c .before .fits-spare .ensures), refl)
+returns-2 c = (omega (arith, c .before .before .before .before .before .before .before .before .if1 .left), refused (c .before .fits-spare .result) (c .if2 .taken) (c .before .fits-spare .ensures), refl, refl)
 
 serve-call-requires : tie.Need-serve-call-requires
 serve-call-requires c κs = (not-refused (c .before .before .before .before .before .before .before .before .before .fits-spare .result) (c .before .before .before .before .before .before .before .before .if2 .left) (c .before .before .before .before .before .before .before .before .before .fits-spare .ensures), omega arith, omega (arith, c .before .before .before .before .before .before .before .before .before .before .before .before .before .before .before .before .if1 .left))
@@ -64,7 +64,7 @@ same-length-14 : tie.Need-same-length-14
 same-length-14 c = search needs
 
 returns-3 : tie.Need-returns-3
-returns-3 c = (omega (arith, c .before .before .before .before .before .before .before .before .before .before .before .before .before .before .before .before .before .before .before .before .before .before .before .before .before .before .before .before .before .before .before .before .before .if1 .left), not-refused (c .before .before .before .before .before .before .before .before .before .before .before .before .before .before .before .before .before .before .before .before .before .before .before .before .before .before .fits-spare .result) (c .before .before .before .before .before .before .before .before .before .before .before .before .before .before .before .before .before .before .before .before .before .before .before .before .before .if2 .left) (c .before .before .before .before .before .before .before .before .before .before .before .before .before .before .before .before .before .before .before .before .before .before .before .before .before .before .fits-spare .ensures), c .before .before .before .before .before .before .before .before .before .before .before .before .before .before .before .before .serve-call .ensures .0)
+returns-3 c = (omega (arith, c .before .before .before .before .before .before .before .before .before .before .before .before .before .before .before .before .before .before .before .before .before .before .before .before .before .before .before .before .before .before .before .before .before .if1 .left), not-refused (c .before .before .before .before .before .before .before .before .before .before .before .before .before .before .before .before .before .before .before .before .before .before .before .before .before .before .fits-spare .result) (c .before .before .before .before .before .before .before .before .before .before .before .before .before .before .before .before .before .before .before .before .before .before .before .before .before .if2 .left) (c .before .before .before .before .before .before .before .before .before .before .before .before .before .before .before .before .before .before .before .before .before .before .before .before .before .before .fits-spare .ensures), c .before .before .before .before .before .before .before .before .before .before .before .before .before .before .before .before .serve-call .ensures .0, record { long = c .before .before .before .before .before .before .before .before .before .before .before .before .before .before .before .before .serve-call .ensures .1 .long; others = λ k d. c .before .before .before .before .before .before .before .before .before .before .before .before .before .before .before .before .serve-call .ensures .1 .others k (λ a b. d a (omega (arith, b))) })
 
 pub serve-spec : {M : Type 1} → statement M
 serve-spec =

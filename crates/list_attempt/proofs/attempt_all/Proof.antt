@@ -7,22 +7,23 @@ use mathlib.Core.List.{List}
 use Prim.Native.Nat.{ℕ, _+_, _-_, _*_, _≤_}
 use lib.ListN.{length}
 use native.Mathlib.Omega.{arith}
+use Rattle.base.specs.Ranges.{Only}
 use Rattle.request_bytes.specs.Requests.{requestAt}
 use Rattle.hv_state.specs.Memory.{Sound}
 use Rattle.hv_state.specs.Serving.{mem}
 use Rattle.hv_blind.specs.Blind.{Blank}
-use Rattle.list_attempt.specs.Attempting.{KeptBefore, Went}
+use Rattle.list_attempt.specs.Attempting.{Went}
 use Rattle.list_attempt.proofs.Laws.{went-none, halts-here, went-on}
 use Rattle.hv_whole.proofs.Laws.{is-true, is-false}
 
 abbrev Inv-loop : tie.InvT-loop
-Inv-loop table zones₀ tree₀ owners₀ number bytes p n answers₀ at i₀ zones tree owners answers i = (i ≤ n) × (length zones ≡ length zones₀) × (length tree ≡ length tree₀) × (length owners ≡ length owners₀) × (length answers ≡ length answers₀) × ((v : List ℕ) → Blank v → Sound (mem table zones₀ tree₀ owners₀ v) → Went (mem table zones₀ tree₀ owners₀ v) number (λ k. requestAt bytes (p + 33 * k)) i (mem table zones tree owners v) answers at) × KeptBefore answers₀ at answers
+Inv-loop table zones₀ tree₀ owners₀ number bytes p n answers₀ at i₀ zones tree owners answers i = (i ≤ n) × (length zones ≡ length zones₀) × (length tree ≡ length tree₀) × (length owners ≡ length owners₀) × (length answers ≡ length answers₀) × ((v : List ℕ) → Blank v → Sound (mem table zones₀ tree₀ owners₀ v) → Went (mem table zones₀ tree₀ owners₀ v) number (λ k. requestAt bytes (p + 33 * k)) i (mem table zones tree owners v) answers at) × Only answers₀ at (at + 2 * n) answers
 
 abbrev μ-loop : tie.MeasureT-loop
 μ-loop table zones₀ tree₀ owners₀ number bytes p n answers₀ at i₀ zones tree owners answers i = n - i
 
 loop-holds : tie.Need-loop-holds Inv-loop μ-loop
-loop-holds c = (omega arith, refl, refl, refl, refl, λ v b s. went-none _ _ _ _ _ s, λ k l. refl)
+loop-holds c = (omega arith, refl, refl, refl, refl, λ v b s. went-none _ _ _ _ _ s, record { long = refl; others = λ k d. refl })
 
 mul-attempt-read : tie.Need-mul-attempt-read Inv-loop μ-loop
 mul-attempt-read c = let r = c .before .before .before .before .before .before .before .before .before .before .before .pre .0 in omega (arith, c .before .before .before .loop-test .taken)
@@ -61,7 +62,7 @@ loop-less : tie.Need-loop-less Inv-loop μ-loop
 loop-less c = search needs
 
 loop-again : tie.Need-loop-again Inv-loop μ-loop
-loop-again c = let v = c .before .before .before .before .before .before .before .before .before .before .before .before .before .before .before .before .before .loop .inv in (omega (arith, c .before .before .before .before .before .before .before .before .before .before .before .before .before .before .before .before .loop-test .taken), c .before .before .before .before .before .before .before .before .before .before .before .zones .given ∙ v .1, c .before .before .before .before .before .before .before .before .before .tree .given ∙ v .2, c .before .before .before .before .before .before .before .owners .given ∙ v .3, c .before .before .write-answer .ensures .0 .long ∙ v .4, λ w b s. went-on _ _ _ (λ k. requestAt (c .before .before .before .before .before .before .before .before .before .before .before .before .before .before .before .before .before .before .before .before .before .before .before .before .args .bytes .now) (c .before .before .before .before .before .before .before .before .before .before .before .before .before .before .before .before .before .before .before .before .before .before .before .before .args .p + 33 * k)) _ _ _ (v .5 w b s) _ _ (c .before .before .before .before .before .before .before .before .before .before .before .before .attempt-read .ensures w b) _ (sym (c .before .before .before .before .before .is-done .ensures) ∙ is-true (c .before .before .before .before .before .is-done .result) (c .before .before .before .before .if1 .left)) (c .before .before .write-answer .ensures .0) (c .before .before .write-answer .ensures .1), λ k l. c .before .before .write-answer .ensures .0 .others k (λ a b. omega (arith, l)) ∙ v .6 k l)
+loop-again c = let v = c .before .before .before .before .before .before .before .before .before .before .before .before .before .before .before .before .before .loop .inv in (omega (arith, c .before .before .before .before .before .before .before .before .before .before .before .before .before .before .before .before .loop-test .taken), c .before .before .before .before .before .before .before .before .before .before .before .zones .given ∙ v .1, c .before .before .before .before .before .before .before .before .before .tree .given ∙ v .2, c .before .before .before .before .before .before .before .owners .given ∙ v .3, c .before .before .write-answer .ensures .0 .long ∙ v .4, λ w b s. went-on _ _ _ (λ k. requestAt (c .before .before .before .before .before .before .before .before .before .before .before .before .before .before .before .before .before .before .before .before .before .before .before .before .args .bytes .now) (c .before .before .before .before .before .before .before .before .before .before .before .before .before .before .before .before .before .before .before .before .before .before .before .before .args .p + 33 * k)) _ _ _ (v .5 w b s) _ _ (c .before .before .before .before .before .before .before .before .before .before .before .before .attempt-read .ensures w b) _ (sym (c .before .before .before .before .before .is-done .ensures) ∙ is-true (c .before .before .before .before .before .is-done .result) (c .before .before .before .before .if1 .left)) (c .before .before .write-answer .ensures .0) (c .before .before .write-answer .ensures .1), record { long = c .before .before .write-answer .ensures .0 .long ∙ v .6 .long; others = λ k d. c .before .before .write-answer .ensures .0 .others k (λ a b. d (omega arith) (omega (arith, c .before .before .before .before .before .before .before .before .before .before .before .before .before .before .before .before .loop-test .taken))) ∙ v .6 .others k d })
 
 same-length-5 : tie.Need-same-length-5 Inv-loop μ-loop
 same-length-5 c = search needs
