@@ -1,4 +1,4 @@
-"""What must hold of docs/CONTRACTS.md, the table of the original's clauses.
+"""What must hold of docs/CONTRACTS.md, the tables of the original's clauses and of the wrong programs that it accepts.
 
 Each rule takes a repository and yields a result for each thing that it looks at."""
 import re
@@ -9,6 +9,9 @@ from repository import Result, closing
 TABLE = "docs/CONTRACTS.md"
 HOW = ("same", "stronger", "refused instead of required", "different", "left out")
 
+# The title of the section that has the table of wrong programs. Every other table is one of clauses.
+WRONG = "Wrong programs that the original's contracts accept"
+
 
 class Row(NamedTuple):
     """A row of a table, and the title of its section."""
@@ -17,7 +20,7 @@ class Row(NamedTuple):
     cells: list
 
 
-def rows(repository):
+def tables(repository):
     """The rows of every table, without its heading."""
     section, found = "", []
     for line in repository.read(TABLE).splitlines():
@@ -31,7 +34,18 @@ def rows(repository):
             found = []
 
 
+def rows(repository):
+    """The rows of the tables of clauses."""
+    return [row for row in tables(repository) if row.section != WRONG]
+
+
+def wrong_programs(repository):
+    """The rows of the table of wrong programs."""
+    return [row for row in tables(repository) if row.section == WRONG]
+
+
 def names(text):
+    """Each name in backquotes."""
     return re.findall(r"`([^`]+)`", text)
 
 
@@ -120,11 +134,12 @@ def implemented(head):
 
 
 def cited_names_exist(repository):
-    """Each name that the table of clauses cites as what is here is defined, in the file that it names, and each
-    that its last column uses is defined here or by the original."""
+    """Each name that a table cites as what is here is defined, in the file that it names, and each that the last
+    column of a table of clauses uses is defined here or by the original."""
     there = defined(repository)
     everywhere = set(repository.crates()).union(*there.values())
-    for name, file in sorted({name for row in rows(repository) for name in cited("".join(row.cells[2:3]))}):
+    here = [row.cells[2:3] for row in rows(repository)] + [row.cells[4:5] for row in wrong_programs(repository)]
+    for name, file in sorted({name for cells in here for name in cited("".join(cells))}):
         if file and file not in there:
             fault = f"there is no {file}"
         elif file and "::" not in name and name not in there[file]:
@@ -156,4 +171,28 @@ def rows_say_how(repository):
             yield Result(f"{TABLE}: {cells}", "" if row.cells[3].startswith(HOW) else "does not say how")
 
 
-RULES = [cited_names_exist, original_is_covered, rows_say_how]
+def wrong_programs_are_edits(repository):
+    """Each row of the table of wrong programs has five cells, names functions of the original, and is a must-fail edit
+    that there is, or a law of the file that it names, or says "none"."""
+    functions = {name for _, text in original(repository) for name in public_functions(text)}
+    edits = {edit.name for crate in repository.crates() for edit in repository.edits(crate)}
+    there = defined(repository)
+    programs = wrong_programs(repository)
+    yield Result(f"{TABLE} has wrong programs", "" if programs else f"has no table under the title {WRONG}")
+    for row in programs:
+        what = " | ".join(row.cells[:2])
+        if len(row.cells) != 5:
+            yield Result(f"{TABLE}: {what}", f"has {len(row.cells)} cells")
+            continue
+        faults = [f"the original has no {name}" for name in names(row.cells[0]) if name not in functions]
+        for name, file in cited(row.cells[3]):
+            if file and not ("/proofs/" in file and name in there.get(file, ())):
+                faults.append(f"{file} does not prove {name}")
+            elif not file and name not in edits:
+                faults.append(f"there is no edit {name}")
+        if not names(row.cells[3]) and not row.cells[3].startswith("none"):
+            faults.append("names no edit and no law")
+        yield Result(f"{TABLE}: {what}", ", ".join(faults))
+
+
+RULES = [cited_names_exist, original_is_covered, rows_say_how, wrong_programs_are_edits]

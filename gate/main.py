@@ -2,7 +2,11 @@
 import sys
 from pathlib import Path
 
+import answers
+import c
+import cli
 import contracts
+import differences
 import expected_cases
 import rules
 import rust
@@ -11,17 +15,21 @@ import toolchain
 import verdict
 from repository import Repository, Result
 
-# Each takes the repository and yields results. Those of `verdict` read what `rt ci` leaves, and those of
-# `rust` link what it proved.
+# Each takes the repository and yields results. Those of `verdict` read what `rt ci` leaves, those of `rust` link
+# what it proved, those of `differences` read what these printed, and those of `c` and `cli` link the archive.
 CHECKS = [
     selftest.results,
     toolchain.formatted,
     *rules.RULES,
     *contracts.RULES,
+    *answers.RULES,
     expected_cases.results,
     toolchain.proved,
     *verdict.RULES,
     *rust.RULES,
+    *differences.RULES,
+    *c.RULES,
+    *cli.RULES,
 ]
 
 

@@ -28,8 +28,9 @@ def interfaces_are_listed(repository):
 
 
 def no_requires(repository):
-    """No public function of an interface crate has a `requires`, and none is another crate's."""
-    for crate in repository.interfaces():
+    """No public function of an interface crate, or that is exported, has a `requires`, and none is another crate's."""
+    exporting = [crate for crate in repository.crates() if crate.startswith("replayframes")]
+    for crate in dict.fromkeys(repository.interfaces() + exporting):
         functions = repository.public_functions(crate)
         for name, contract in functions:
             yield Result(f"{crate}::{name} takes any arguments", "has a requires" if re.search(r"\brequires\b", contract) else "")
@@ -65,4 +66,17 @@ def edits_keep_the_outline(repository):
             yield Result(f"{edit.name} keeps the outline", ", ".join(faults))
 
 
-RULES = [assumes_nothing, interfaces_are_listed, no_requires, edits_attack_functions, edits_keep_the_outline]
+def edits_find_their_text(repository):
+    """Each text that an edit replaces stands once in its file."""
+    for crate in repository.crates():
+        for edit in repository.edits(crate):
+            file, faults = "", []
+            for key, text in edit.lines:
+                if key == "file":
+                    file = text
+                elif key == "old" and (count := repository.read(f"crates/{crate}/{file}").count(text)) != 1:
+                    faults.append(f"{text!r} stands {count} times in {file}")
+            yield Result(f"{edit.name} finds its text", ", ".join(faults))
+
+
+RULES = [assumes_nothing, interfaces_are_listed, no_requires, edits_attack_functions, edits_keep_the_outline, edits_find_their_text]

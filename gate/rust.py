@@ -1,5 +1,5 @@
 """Runs the Rust that stands beside the proofs, and makes results of what it says. rust/README.md says what
-it is. The archives are those of the crates as they are: `rt ci` proves them first.
+it is. The archive is that of the crates as they are: `rt ci` proves them first.
 
 Each check takes a repository and yields a result for each thing that it looks at."""
 import os
@@ -12,16 +12,9 @@ from toolchain import run
 
 NEEDED = "the Debian packages cargo and rustc, version 1.63 or later"
 PROGRAMS = "rust/target/release"
-ARCHIVES = [
-    "replayframes",
-    "replayframes_looks",
-    "replayframes_allocator",
-    "replayframes_frames",
-    "replayframes_config",
-    "replayframes_machines",
-    "replayframes_start",
-    "replayframes_calls",
-]
+
+# What the quick comparison printed.
+COMPARED = "target/compare.txt"
 
 # The quick comparison takes about a minute; one that does not end is a failure.
 SECONDS = "600"
@@ -34,26 +27,48 @@ def stripped(repository):
 
 
 def archived(repository):
-    """`rt staticlib`: the proved functions are built into archives."""
-    for name in ARCHIVES:
-        status, _ = run(repository, "rt", "staticlib", name)
-        yield Result(f"rt staticlib {name}", "" if status == 0 else f"ended with status {status}")
+    """`./archive`: the proved functions are built into the one archive to link."""
+    status, _ = run(repository, "./archive")
+    yield Result("./archive", "" if status == 0 else f"ended with status {status}")
 
 
 def built(repository):
-    """The Rust programs are built, with the archives, and with nothing from the network."""
+    """The Rust programs are built, with the archive, and with nothing from the network."""
     fault = cargo_is_missing()
     if not fault:
-        words = ["cargo", "build", "--release", "--offline", "--locked", "--manifest-path", "rust/Cargo.toml"]
-        unset = [word for name in ARCHIVES for word in ("-u", f"{name.upper()}_ARCHIVE")]
-        status, _ = run(repository, "env", *unset, *words)
+        status, _ = run_cargo(repository, "rust", "build", "--release")
         fault = "" if status == 0 else f"ended with status {status}"
     yield Result("cargo build", fault)
 
 
+def tested(repository):
+    """`cargo test`: the crate replayframes does what its tests say, the examples in its documentation run, and the
+    rivals answer as the models."""
+    status, said = run_cargo(repository, "rust", "test", "--no-fail-fast")
+    told = re.findall(r"(?m)^test (.+) \.\.\. (\w+)$", said)
+    yield from (Result(f"cargo test: {name}", "" if how == "ok" else f"is {how}") for name, how in told)
+    if status != 0 or not told:
+        yield Result("cargo test", f"ended with status {status} after {len(told)} tests")
+
+
+def documented(repository):
+    """`cargo rustdoc`: the documentation of the crate replayframes has no fault."""
+    status, _ = run_cargo(repository, "rust", "rustdoc", "--package", "replayframes", "--", "-D", "warnings")
+    yield Result("cargo rustdoc", "" if status == 0 else f"ended with status {status}")
+
+
+def example_prints(repository):
+    """The program in examples/rust prints what its file stdout holds."""
+    status, said = run_cargo(repository, "examples/rust", "run", "--quiet")
+    fault = "" if said == repository.read("examples/rust/stdout") else "prints something else than its file stdout"
+    yield Result("examples/rust", fault if status == 0 else f"ended with status {status}")
+
+
 def compared(repository):
     """`compare quick`: ours answers as upstream and plain models do, and differs as the findings say."""
-    yield from counted(*run_program(repository, "timeout", SECONDS, f"{PROGRAMS}/compare", "quick"))
+    status, said = run_program(repository, "timeout", SECONDS, f"{PROGRAMS}/compare", "quick")
+    (repository.root / COMPARED).write_text(said)
+    yield from counted(status, said)
 
 
 def sampled(repository):
@@ -63,10 +78,26 @@ def sampled(repository):
 
 
 def cargo_is_missing():
-    """What is to be installed, if anything. Where it may be installed, it is."""
-    if not shutil.which("cargo") and os.geteuid() == 0 and shutil.which("apt-get"):
-        subprocess.run(["apt-get", "install", "-y", "cargo"])
-    return "" if shutil.which("cargo") else f"there is no cargo: install {NEEDED}"
+    """What is to be installed, if anything."""
+    missing = left_missing(["cargo", "rustc"], lambda: not shutil.which("cargo"))
+    return f"there is no cargo: install {NEEDED}" if missing else ""
+
+
+def left_missing(packages, missing):
+    """What `missing` says in the end. If it says something and this runs as root, Debian's packages are installed; where
+    that does not help, once more after their lists were fetched."""
+    install = ["install", "-y", "--no-install-recommends", *packages]
+    for words in (install, ["update"], install):
+        if missing() and os.geteuid() == 0 and shutil.which("apt-get"):
+            subprocess.run(["apt-get", *words])
+    return missing()
+
+
+def run_cargo(repository, folder, command, *words):
+    """Runs a command of cargo on the package or workspace in a folder, with the repository's archive, and with nothing
+    from the network."""
+    place = ["--offline", "--locked", "--manifest-path", f"{folder}/Cargo.toml"]
+    return run(repository, "env", "-u", "REPLAYFRAMES_ARCHIVE", "cargo", command, *place, *words)
 
 
 def run_program(repository, *words):
@@ -87,4 +118,4 @@ def counted(status, said):
         yield Result("compare quick", f"ended with status {status} after: {lines[-1]}")
 
 
-RULES = [stripped, archived, built, compared, sampled]
+RULES = [stripped, archived, built, compared, sampled, tested, documented, example_prints]

@@ -23,6 +23,10 @@ SHAPE = [
     r": error: `\S+`: `\S+` is not in scope",
     r"takes .* arguments",
     r"expected a type, but `tie\.",
+    r"this tuple has \d+ components",
+    r"a tuple is checked against",
+    r"this λ is checked against",
+    r"a dimension .* is expected here",
     r"expected type `(?:ℕ|List ℕ)`",
     r": error: `\S+-spec`: ",
     r": error: `(?:Inv|μ)-\S*`: ",
@@ -44,7 +48,7 @@ def rests_on_nothing(repository):
 
 
 def crates_are_quick(repository):
-    """Each crate is proved in little time, and so is each edit of it."""
+    """Each crate is proved in little time."""
     for crate in repository.crates():
         took = re.search(rf"(?m)^rt: {crate} proved \((\d+) s\)$", repository.read(f"target/log/{crate}.out"))
         fault = "" if took else "is not proved"
@@ -68,9 +72,12 @@ def refused_for_a_fact(repository):
     for crate in repository.crates():
         for edit in repository.edits(crate):
             fault = "" if repository.read(f"target/must-fail/{edit.name}.res").strip() == "refused" else "is not refused"
-            first = first_error(repository.read(f"target/must-fail/{edit.name}/.log"))
+            log = repository.read(f"target/must-fail/{edit.name}/.log")
+            first = first_error(log)
             if any(re.search(shape, first) for shape in SHAPE):
                 fault = "is refused for its shape: " + first[:300]
+            elif not first and not re.search(r"(?m)^note: .*: it is not proved that ", log):
+                fault = fault or "is refused, and nothing says what is not proved"
             yield Result(f"{edit.name} is refused for a fact", fault)
 
 

@@ -1,7 +1,7 @@
 -- The laws of choices, of changed functions and of the lowest number. Assumes nothing.
 use Prim.Native.Nat.{ℕ, zero, suc, _+_, _<_, _≤_, suc-le-suc, zero-le}
-use mathlib.Core.Path.{_≡_, refl, sym, _∙_, ap}
-use mathlib.Core.Bool.{Bool, true, false, true≢false}
+use mathlib.Core.Path.{_≡_, refl, sym, ap}
+use mathlib.Core.Bool.{Bool, true, false, not, true≢false}
 use lib.Dec.{ltb, leb, eqb}
 use native.Mathlib.Nat.{not-suc-le-zero, le-of-suc-le-suc}
 use native.Mathlib.Decide.{ℕ-discrete}
@@ -22,6 +22,15 @@ not-passed false n = refl
 pub not-failed : (b : Bool) → (b ≡ false → ⊥) → b ≡ true
 not-failed true n = refl
 not-failed false n = absurd (n refl)
+
+-- a test of which the opposite passes fails, and the other way round
+pub is-false : (b : Bool) → not b ≡ true → b ≡ false
+is-false true e = sym e
+is-false false e = refl
+
+pub is-true : (b : Bool) → not b ≡ false → b ≡ true
+is-true true e = refl
+is-true false e = sym e
 
 -- by cases on a test
 pub by : {A : Type 0} (P : A → Type 0) (t : Bool) (a b : A) → (t ≡ true → P a) → (t ≡ false → P b) → P (pick t a b)

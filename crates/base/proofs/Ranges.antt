@@ -1,12 +1,18 @@
 -- The laws of lists that differ in a range alone. Assumes nothing.
 use mathlib.Core.Path.{_≡_, refl, _∙_}
 use mathlib.Core.List.{List}
-use Prim.Native.Nat.{ℕ, _+_, _≤_, _<_}
-use lib.ListN.{length, getD, set, length-set}
+use Prim.Native.Nat.{ℕ, zero, suc, _+_, _≤_, _<_}
+use lib.ListN.{length, getD, set, replicate, length-set}
 use lib.Seq.{getD-set-same, getD-set-other}
 use native.Mathlib.Decide.{ℕ-discrete}
 use native.Mathlib.Omega.{arith}
-use Rattle.base.specs.Ranges.{Outside, Only, Emptied}
+use Rattle.base.specs.Ranges.{Only, Emptied}
+
+-- a word of a list of zeros, and what is behind them
+pub zero-word : (w n : ℕ) → getD {A = ℕ} (replicate w 0) n 0 ≡ 0
+zero-word zero n = refl
+zero-word (suc w) zero = refl
+zero-word (suc w) (suc n) = zero-word w n
 
 -- no change, one word, and one change after another within one range
 pub only-none : (t : List ℕ) (a b : ℕ) → Only t a b t

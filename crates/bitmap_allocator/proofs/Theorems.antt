@@ -1,39 +1,17 @@
--- Theorems on the public contracts: what they assume is met at every size, and how many frames are free after each change. They follow
--- from the contracts alone, for every full tree, and so no size is a case of its own. Assumes nothing.
-use mathlib.Core.Path.{_≡_, refl, sym, ap, _∙_}
+-- Theorems on the public contracts: a reset meets what they assume, and how many frames are free after each change. They follow from the
+-- contracts alone, for every full tree, and so no size is a case of its own. Assumes nothing.
+use mathlib.Core.Path.{_≡_, _∙_}
 use mathlib.Core.List.{List}
-use Prim.Native.Nat.{ℕ, zero, suc, _+_, _-_, _*_, _/_, _^_, _≤_, _<_, min}
+use Prim.Native.Nat.{ℕ, _+_, _-_, _*_, _≤_, _<_}
 use native.Mathlib.Nat.{mul-one, mul-zero, sub-zero}
 use native.Mathlib.Omega.{arith}
-use lib.ListN.{length, getD, replicate, length-replicate}
+use lib.ListN.{length}
 use Rattle.base.proofs.Counts.{many-change, many-const}
 use Rattle.bitmap_tree.specs.Tree.{free, cap, Full, Agree}
 use Rattle.bitmap_tree.specs.Writes.{Changed}
-use Rattle.bitmap_tree.proofs.Nodes.{parent-none}
-use Rattle.bitmap_tree.proofs.Fullness.{full-exists}
 use Rattle.bitmap_allocator.specs.declared.Wiped.{Wiped}
 use Rattle.bitmap_looks.specs.Looks.{freeFrames}
 use Rattle.bitmap_allocator.specs.Changes.{Reset, ResetSays, Took, TookRun, Gave, SetRange}
-
--- ---- what the contracts assume is met at every size
-
--- a word of a tree of zeros
-zero-word : (w n : ℕ) → getD {A = ℕ} (replicate w 0) n 0 ≡ 0
-zero-word zero n = refl
-zero-word (suc w) zero = refl
-zero-word (suc w) (suc n) = zero-word w n
-
--- for every size there is a tree whose summaries agree
-pub every-size : (d : ℕ) → 0 < d → d ≤ 15 → (t : List ℕ) × Full (length t) × (cap t ≡ 16 ^ d) × Agree t
-unfolding Agree
-every-size d p l =
-    let f = full-exists d p l in
-    let long = length-replicate {A = ℕ} (f .0) 0 in (
-      replicate (f .0) 0,
-      rw long (f .1),
-      rw long (f .2),
-      λ n q h. parent-none (replicate (f .0) 0) n (zero-word (f .0) ((n - 1) / 16)) ∙ ap (λ (x : ℕ). min 1 x) (sym (zero-word (f .0) n)),
-    )
 
 -- whatever the words of a full tree hold, after reset they are a full tree whose summaries agree
 pub reset-agrees : (t t′ : List ℕ) (r : Wiped) → Full (length t) → ResetSays t t′ r → Full (length t′) × Agree t′

@@ -18,7 +18,8 @@ pow-le d e h = pow-le-pow-right (lit< tt) h
 -- a full tree has a word, and so few that no number of the code wraps
 pub full-bound : (w : ℕ) → Full w → (0 < w) × (w < 2 ^ 57)
 full-bound w f =
-    let a = pow-le (f .depth) 15 (f .few) in
+    let l = f .few in
+    let a = pow-le (f .depth) 15 (omega arith) in
     let b = pow-le 1 (f .depth) (f .some) in
     let e = f .count in
     omega arith
@@ -32,7 +33,7 @@ level-exists (suc d) =
 
 -- for every power from 1 to 15 there is a full tree of so many frames
 pub full-exists : (d : ℕ) → 0 < d → d ≤ 15 → (w : ℕ) × Full w × (15 * w + 1 ≡ 16 ^ d)
-full-exists d p l = let r = level-exists d in (r .0, record { depth = d; some = p; few = l; count = r .1 }, r .1)
+full-exists d p l = let r = level-exists d in (r .0, record { depth = d; some = p; few = omega arith; count = r .1 }, r .1)
 
 -- the words above the frames, and the one at the root: the frames begin at the first bit of a word
 pub full-whole : (w : ℕ) → Full w → w ≡ 16 * ((w - 1) / 16) + 1

@@ -90,6 +90,10 @@ beyond = 20
 abbrev pub dirty : ℕ
 dirty = 21
 
+-- the words are not as many as a table has
+abbrev pub noTable : ℕ
+noTable = 45
+
 -- no machine of the configuration has the number
 abbrev pub noMachine : ℕ
 noMachine = 48
@@ -162,14 +166,26 @@ fewWords = 64
 abbrev pub badSpare : ℕ
 badSpare = 65
 
+-- there is no such region
+abbrev pub noRegion : ℕ
+noRegion = 66
+
+-- there are more than 64 machines
+abbrev pub manyMachines : ℕ
+manyMachines = 67
+
+-- a set has more than 32 slots
+abbrev pub manySlots : ℕ
+manySlots = 68
+
 -- r is the code of an answer that says what is so
 pub record Coded {A : Type 0} (Says : A → Type 0) (code : A → ℕ) (r : ℕ) : Type 0 where
   pub answer : A
   pub says : Says answer
   pub is : r ≡ code answer
 
--- the same, and the pointer holds the answer's value, or what it held where the answer has none
-pub record Valued {A : Type 0} (Says : A → Type 0) (code : A → ℕ) (value : A → ℕ → ℕ) (old new r : ℕ) : Type 0 where
+-- the same, and the pointer, or the pointers together, hold the answer's value, or what they held where the answer has none
+pub record Valued {A B : Type 0} (Says : A → Type 0) (code : A → ℕ) (value : A → B → B) (old new : B) (r : ℕ) : Type 0 where
   pub answer : A
   pub says : Says answer
   pub is : r ≡ code answer

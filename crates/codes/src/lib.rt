@@ -44,6 +44,8 @@ pub const RF_UNBACKED: u32 = 19;
 pub const RF_BEYOND: u32 = 20;
 // The frame is free and not empty.
 pub const RF_DIRTY: u32 = 21;
+// The words are not as many as a table has.
+pub const RF_NO_TABLE: u32 = 45;
 // No machine of the configuration has the number.
 pub const RF_NO_MACHINE: u32 = 48;
 // The machine is there already.
@@ -80,3 +82,9 @@ pub const RF_BROKEN: u32 = 63;
 pub const RF_FEW_WORDS: u32 = 64;
 // The spare memory is not as long as the memory that it is to hold.
 pub const RF_SPARE: u32 = 65;
+// There is no such region.
+pub const RF_NO_REGION: u32 = 66;
+// There are more than 64 machines.
+pub const RF_MANY_MACHINES: u32 = 67;
+// A set has more than 32 slots.
+pub const RF_MANY_SLOTS: u32 = 68;

@@ -1,2 +1,3 @@
--- The laws of configurations.
+-- The laws of configurations, and a right one of every size (`Sizes`).
 pub mod Laws
+pub mod Sizes

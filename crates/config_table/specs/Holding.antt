@@ -28,6 +28,12 @@ MachineSays t number (Counted.Number m) = (length t ≡ 8325) × HasNumber (tabl
 MachineSays t number Counted.NoMachine = (length t ≡ 8325) × ((k : ℕ) → k < tableConfig t .machines → tableConfig t .number k ≡ number → ⊥)
 MachineSays t number Counted.NoTable = length t ≡ 8325 → ⊥
 
+-- the number of machine m
+abbrev pub NumberSays : List ℕ → ℕ → Counted → Type 0
+NumberSays t m (Counted.Number n) = (length t ≡ 8325) × (m < tableConfig t .machines) × (n ≡ tableConfig t .number m)
+NumberSays t m Counted.NoMachine = (length t ≡ 8325) × (tableConfig t .machines ≤ m)
+NumberSays t m Counted.NoTable = length t ≡ 8325 → ⊥
+
 -- how many regions machine m has
 abbrev pub CountSays : List ℕ → ℕ → Counted → Type 0
 CountSays t m (Counted.Number n) = (length t ≡ 8325) × (m < tableConfig t .machines) × (n ≡ tableConfig t .count m)

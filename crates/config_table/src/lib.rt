@@ -3,10 +3,10 @@
 //
 // Every function takes any words of any length. Of a table as `config::load` writes it the answers are
 // those of the configuration; `config::check_table` decides whether words are one.
-ghost use Rattle.config_table.specs.Holding.{MachinesSays, MachineSays, CountSays, RegionSays, PoolSays, GivenSays};
+ghost use Rattle.config_table.specs.Holding.{MachinesSays, MachineSays, NumberSays, CountSays, RegionSays, PoolSays, GivenSays};
 use address::Region;
 
-// How many there are.
+// How many there are, the place of a machine, or its number.
 pub enum Counted {
     Number(usize),
     // There is no such machine. Each enum below that has this variant means the same by it.
@@ -59,6 +59,19 @@ pub fn machine(table: &[u64], number: u64) -> Counted
         m += 1;
     }
     Counted::NoMachine
+}
+
+// The number of machine m.
+pub fn number(table: &[u64], m: usize) -> Counted
+    ensures { λ r. ⌜ NumberSays (now (table .entry)) m r ⌝ }
+{
+    if table.len() != 8325 {
+        return Counted::NoTable;
+    }
+    if base::least(64, table[8320] as usize) <= m {
+        return Counted::NoMachine;
+    }
+    Counted::Number((table[130 * m] % 65536) as usize)
 }
 
 // How many regions machine m has.

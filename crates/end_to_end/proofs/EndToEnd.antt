@@ -102,7 +102,7 @@ pub record Meant (s : List ℕ) (b d : Mem) : Type 0 where
 pub run-means : (c s lentReplies lentAnswers spareZones spareTree spareOwners : List ℕ) (b d : Mem) (replies answers : List ℕ) (n : ℕ) → Lives c b → RanSays s lentReplies lentAnswers spareZones spareTree spareOwners b d replies answers (Ran.Done n) → Meant s b d
 run-means c s lentReplies lentAnswers spareZones spareTree spareOwners b d replies answers n l h =
     let t = h .2 .transcript in
-    let x = happened s replies answers 0 0 (t .items) b d (t .performed) in
+    let x = happened s lentReplies lentAnswers replies answers 0 0 (t .items) b d (t .performed) in
     record { items = t .items; framed = t .framed; events = x .events; are = x .are; state = theorems.reached b (x .events) d (x .becomes) (sound c b l) .state }
 
 -- From the contract of `run` to `isolated` in one step: whatever the bytes s are, and whatever `run` answers.

@@ -70,9 +70,9 @@ pub record Happened (s : List ℕ) (items : List Item) (b d : Mem) : Type 0 wher
   pub are : AreEvents s items events
   pub becomes : Becomes b events d
 
-pub happened : (s replies answers : List ℕ) (r at : ℕ) (items : List Item) (b d : Mem) → Performed s replies answers r at items b d → Happened s items b d
-happened s replies answers r at items b d Over = record { events = []; are = AreEvents.None; becomes = Becomes.Stays b }
-happened s replies answers r at items b d (Next {items = rest} {c = c} item said says w more) = go said says (happened s replies answers (r + 3) (at + 2 * (item .len / 33)) rest c d more)
+pub happened : (s replies₀ answers₀ replies answers : List ℕ) (r at : ℕ) (items : List Item) (b d : Mem) → Performed s replies₀ answers₀ replies answers r at items b d → Happened s items b d
+happened s replies₀ answers₀ replies answers r at items b d (Over kr ka) = record { events = []; are = AreEvents.None; becomes = Becomes.Stays b }
+happened s replies₀ answers₀ replies answers r at items b d (Next {items = rest} {c = c} item said says w k more) = go said says (happened s replies₀ answers₀ replies answers (r + 3) (at + 2 * (item .len / 33)) rest c d more)
   where
     called : (q : Call) (v : Reply) → IsCall s (item .from) (item .len) q → CallServed b (item .number) q c v → Happened s rest c d → Happened s (item ∷ rest) b d
     called q v i h t = record { events = Asks (item .number) q ∷ t .events; are = AreEvents.Called item q i (t .are); becomes = Becomes.Serves b c d (t .events) (item .number) q v h (t .becomes) }
@@ -87,7 +87,7 @@ happened s replies answers r at items b d (Next {items = rest} {c = c} item said
 pub lives-ran : (c s replies answers spareZones spareTree spareOwners : List ℕ) (b d : Mem) (replies′ answers′ : List ℕ) (r : Ran) → Lives c b → RanSays s replies answers spareZones spareTree spareOwners b d replies′ answers′ r → Lives c d
 lives-ran c s replies answers spareZones spareTree spareOwners b d replies′ answers′ (Ran.Done n) l h =
     let t = h .2 .transcript in
-    let x = happened s replies′ answers′ 0 0 (t .items) b d (t .performed) in
+    let x = happened s replies answers replies′ answers′ 0 0 (t .items) b d (t .performed) in
     goes-on (x .events) l (x .becomes)
 lives-ran c s replies answers spareZones spareTree spareOwners b d replies′ answers′ (Ran.Broken q) l h = stays l (h .3)
 lives-ran c s replies answers spareZones spareTree spareOwners b d replies′ answers′ Ran.FewWords l h = stays l (h .1)

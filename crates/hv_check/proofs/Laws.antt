@@ -39,7 +39,8 @@ use Rattle.hv_state.specs.Memory.{presentIn, Sound}
 use Rattle.hv_state.specs.Serving.{mem}
 use Rattle.hv_state.proofs.Zones.{present-is, present-none}
 use Rattle.hv_check.specs.declared.Fault.{Fault}
-use Rattle.hv_check.specs.Checking.{Laid, SetOf, MachineRight, FaultSays, FirstWrong, Machines, FrameRight, FirstFrame, Unsound}
+use Rattle.hv_check.specs.declared.Checked.{Checked}
+use Rattle.hv_check.specs.Checking.{Laid, MachineRight, FaultSays, FirstWrong, Machines, FrameRight, Unsound, InOrder, IsClean, CheckSays}
 use Rattle.hv_check.proofs.Parts.{sound-machine, sound-frame, all-sound}
 
 -- ---- the table
@@ -85,8 +86,9 @@ table-unsound t z tr o w f = (f, λ s. f (s .table))
 -- ---- machines
 
 -- memories with another number of machines' words are not sound
-pub zones-unsound : (t z tr o w : List ℕ) (n : ℕ) → n ≡ tableConfig t .machines → (Shaped z n → ⊥) → Unsound (mem t z tr o w) (Shaped z (tableConfig t .machines) → ⊥)
-zones-unsound t z tr o w n e f = let g = subst (λ (x : ℕ). Shaped z x → ⊥) e f in (g, λ s. g (s .zones .flagged .shaped))
+pub zones-unsound : (t z tr o w : List ℕ) (n : ℕ) → Writable t → n ≡ tableConfig t .machines → (Shaped z n → ⊥)
+    → Unsound (mem t z tr o w) (Writable t × (Shaped z (tableConfig t .machines) → ⊥))
+zones-unsound t z tr o w n k e f = let g = subst (λ (x : ℕ). Shaped z x → ⊥) e f in ((k, g), λ s. g (s .zones .flagged .shaped))
 
 -- where the words of machine m lie, as it is computed
 pub place-within : (z : List ℕ) (slots m : ℕ) → placeOf slots m + stride slots ≤ length z → m * (3 + 8 * slots) + (3 + 8 * slots) ≤ length z
@@ -106,10 +108,19 @@ flag-of z slots m = refl
 abbrev At : Config → List ℕ → ℕ → ℕ → Which → Type 0
 At c z slots m w = SetRight c z m w (getD z (m * (3 + 8 * slots)) 0) (setAt (m * (3 + 8 * slots)) slots w) slots
 
--- where it is not right there, it is not right
-pub set-wrong : (c : Config) (z : List ℕ) (slots m : ℕ) (w : Which) → (At c z slots m w → ⊥) → SetOf c z slots m w → ⊥
-unfolding placeOf
-set-wrong c z slots m w n h = n h
+-- the first reason why a machine's words are not right, as it is found
+module _ (c : Config) (z : List ℕ) (slots m : ℕ) (room : c .count m ≤ slots) where
+  pub presence-wrong : 1 < getD z (m * (3 + 8 * slots)) 0 → FaultSays c z slots m Fault.Presence
+  unfolding placeOf
+  presence-wrong l = (room, omega arith)
+
+  pub processors-wrong : getD z (m * (3 + 8 * slots)) 0 < 2 → (At c z slots m Processors → ⊥) → FaultSays c z slots m Fault.Processors
+  unfolding placeOf
+  processors-wrong l n = (room, l, n)
+
+  pub devices-wrong : getD z (m * (3 + 8 * slots)) 0 < 2 → At c z slots m Processors → (At c z slots m Devices → ⊥) → FaultSays c z slots m Fault.Devices
+  unfolding placeOf
+  devices-wrong l p n = (room, l, p, n)
 
 -- a machine is right where its room, its first word and both of its sets are
 pub machine-right : (c : Config) (z : List ℕ) (slots m : ℕ) → c .count m ≤ slots → getD z (m * (3 + 8 * slots)) 0 < 2 → At c z slots m Processors → At c z slots m Devices → MachineRight c z slots m
@@ -123,15 +134,22 @@ machine-right c z slots m room flag p d = record { room = room; flag = flag; set
 -- a machine with a fault is not right
 fault-not : (c : Config) (z : List ℕ) (slots m : ℕ) (why : Fault) → FaultSays c z slots m why → MachineRight c z slots m → ⊥
 fault-not c z slots m Fault.FewSlots f h = let a = h .room in omega arith
-fault-not c z slots m Fault.Presence f h = let a = h .flag in omega arith
-fault-not c z slots m Fault.Processors f h = f (h .sets Processors)
-fault-not c z slots m Fault.Devices f h = f (h .sets Devices)
+fault-not c z slots m Fault.Presence f h = let a = h .flag in let e = f .1 in omega arith
+fault-not c z slots m Fault.Processors f h = f .2 (h .sets Processors)
+fault-not c z slots m Fault.Devices f h = f .3 (h .sets Devices)
 
 -- and memories with such a machine are not sound
-pub machine-unsound : (t z tr o w : List ℕ) (n slots m : ℕ) (why : Fault) → n ≡ tableConfig t .machines → slots ≡ slotsIn z n → FirstWrong (tableConfig t) z slots m why → Unsound (mem t z tr o w) (FirstWrong (tableConfig t) z (slotsIn z (tableConfig t .machines)) m why)
-machine-unsound t z tr o w n slots m why d e f =
+pub machine-unsound : (t z tr o w : List ℕ) (n slots m : ℕ) (why : Fault) → Writable t → n ≡ tableConfig t .machines → Shaped z n → slots ≡ slotsIn z n
+    → FirstWrong (tableConfig t) z slots m why
+    → Unsound (mem t z tr o w) (Writable t × Shaped z (tableConfig t .machines) × FirstWrong (tableConfig t) z (slotsIn z (tableConfig t .machines)) m why)
+machine-unsound t z tr o w n slots m why k d h e f =
     let g = subst (λ (x : ℕ). FirstWrong (tableConfig t) z x m why) (e ∙ ap (slotsIn z) d) f in
-    (g, λ s. fault-not (tableConfig t) z (slotsIn z (tableConfig t .machines)) m why (g .is) (sound-machine (mem t z tr o w) m s (g .machine)))
+    ((k, subst (Shaped z) d h, g), λ s. fault-not (tableConfig t) z (slotsIn z (tableConfig t .machines)) m why (g .is) (sound-machine (mem t z tr o w) m s (g .machine)))
+
+-- machines that are right, by the table's number of them and by the slots that their words have
+in-order : (t z : List ℕ) (n slots : ℕ) → Machines t z n slots → Machines t z (tableConfig t .machines) (slotsIn z (tableConfig t .machines))
+in-order t z n slots h =
+    subst (λ (x : ℕ). Machines t z (tableConfig t .machines) x) (h .laid .is ∙ ap (slotsIn z) (h .number)) (subst (λ (x : ℕ). Machines t z x slots) (h .number) h)
 
 -- ---- frames
 
@@ -176,32 +194,45 @@ misfit-not base t o Unfit.BadBase n a = n .1 (a .aligned)
 
 -- ---- the memories, with the allocator's region as it is read
 
-module _ (t z tr o w : List ℕ) (p : Region) (is : p ≡ tableConfig t .pool) where
+module _ (t z tr o w : List ℕ) (p : Region) (is : p ≡ tableConfig t .pool) (n slots : ℕ) (h : Machines t z n slots) where
+  ordered : InOrder (mem t z tr o w)
+  ordered = in-order t z n slots h
+
   -- memories that are not clean are not sound
-  pub frames-unsound : (Clean (p .host) tr o w → ⊥) → Unsound (mem t z tr o w) (Clean (tableConfig t .pool .host) tr o w → ⊥)
-  frames-unsound f = let g = subst (λ (x : Region). Clean (x .host) tr o w → ⊥) is f in (g, λ s. g (s .frames))
+  pub frames-unsound : (Clean (p .host) tr o w → ⊥) → CheckSays (mem t z tr o w) Checked.Frames
+  frames-unsound f = let g = subst (λ (x : Region). Clean (x .host) tr o w → ⊥) is f in ((ordered, g), λ s. g (s .frames))
 
-  -- nor those with fewer frames than pages
-  pub few-frames : Clean (p .host) tr o w → length o < p .pages → Unsound (mem t z tr o w) (cap tr < tableConfig t .pool .pages)
-  few-frames c l =
-      let e = c .accounted .matched .bytes in
-      let g : cap tr < tableConfig t .pool .pages = subst (λ (x : Region). cap tr < x .pages) is (omega arith) in
-      (g, λ s. let h = s .good .plan .frames in omega arith)
+  module _ (c : Clean (p .host) tr o w) where
+    clean : IsClean (mem t z tr o w)
+    clean = subst (λ (x : Region). Clean (x .host) tr o w) is c
 
-  -- nor those with more frames that have contents than pages
-  pub few-pages : p .pages < framesIn w → Unsound (mem t z tr o w) (tableConfig t .pool .pages < framesIn w)
-  few-pages l =
-      let g : tableConfig t .pool .pages < framesIn w = subst (λ (x : Region). x .pages < framesIn w) is l in
-      (g, λ s. let h = s .good .plan .pages in omega arith)
+    -- nor those with fewer frames than pages
+    pub few-frames : length o < p .pages → CheckSays (mem t z tr o w) Checked.FewFrames
+    few-frames l =
+        let e = c .accounted .matched .bytes in
+        let g : cap tr < tableConfig t .pool .pages = subst (λ (x : Region). cap tr < x .pages) is (omega arith) in
+        ((ordered, clean, g), λ s. let h = s .good .plan .frames in omega arith)
 
-  -- where every frame is right as well, they are sound
-  pub all-right : (n slots k : ℕ) → Machines t z n slots → Clean (p .host) tr o w → p .pages ≤ length o → framesIn w ≤ p .pages → Stops (λ j. FrameRight (presentIn z n) (state tr o j)) 0 (framesIn w) k → framesIn w ≤ k → Sound (mem t z tr o w)
-  all-right n slots k h c many few s e =
-      let b = c .accounted .matched .bytes in
-      all-sound t z tr o w n slots h (subst (λ (x : Region). Clean (x .host) tr o w) is c) (subst (λ (x : Region). x .pages ≤ cap tr) is (omega arith)) (subst (λ (x : Region). framesIn w ≤ x .pages) is few) (λ j l. s .before j (omega arith) (omega arith))
+    module _ (many : p .pages ≤ length o) where
+      enough : tableConfig t .pool .pages ≤ cap tr
+      enough = let b = c .accounted .matched .bytes in subst (λ (x : Region). x .pages ≤ cap tr) is (omega arith)
 
--- memories with a frame that is not right are not sound
-pub frame-unsound : (t z tr o w : List ℕ) (n k : ℕ) → n ≡ tableConfig t .machines → k < framesIn w → Stops (λ j. FrameRight (presentIn z n) (state tr o j)) 0 (framesIn w) k → Unsound (mem t z tr o w) (FirstFrame (mem t z tr o w) k)
-frame-unsound t z tr o w n k e l s =
-    let g = subst (λ (x : ℕ). Stops (λ j. FrameRight (presentIn z x) (state tr o j)) 0 (framesIn w) k) e s in
-    (record { within = l; stops = g }, λ h. g .fails l (sound-frame (mem t z tr o w) k h l))
+      -- nor those with more frames that have contents than pages
+      pub few-pages : p .pages < framesIn w → CheckSays (mem t z tr o w) Checked.FewPages
+      few-pages l =
+          let g : tableConfig t .pool .pages < framesIn w = subst (λ (x : Region). x .pages < framesIn w) is l in
+          ((ordered, clean, enough, g), λ s. let h = s .good .plan .pages in omega arith)
+
+      module _ (few : framesIn w ≤ p .pages) (k : ℕ) (s : Stops (λ j. FrameRight (presentIn z n) (state tr o j)) 0 (framesIn w) k) where
+        backed : framesIn w ≤ tableConfig t .pool .pages
+        backed = subst (λ (x : Region). framesIn w ≤ x .pages) is few
+
+        -- nor those with a frame that is not right
+        pub frame-unsound : k < framesIn w → CheckSays (mem t z tr o w) (Checked.Frame k)
+        frame-unsound l =
+            let g = subst (λ (x : ℕ). Stops (λ j. FrameRight (presentIn z x) (state tr o j)) 0 (framesIn w) k) (h .number) s in
+            ((ordered, clean, enough, backed, record { within = l; stops = g }), λ y. g .fails l (sound-frame (mem t z tr o w) k y l))
+
+        -- where every frame is right as well, they are sound
+        pub all-right : framesIn w ≤ k → Sound (mem t z tr o w)
+        all-right e = all-sound t z tr o w n slots h clean enough backed (λ j l. s .before j (omega arith) (omega arith))

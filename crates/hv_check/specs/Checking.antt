@@ -40,12 +40,12 @@ pub record MachineRight (c : Config) (z : List ℕ) (slots m : ℕ) : Type 0 whe
   pub flag : getD z (placeOf slots m) 0 < 2
   pub sets : (w : Which) → SetOf c z slots m w
 
--- why they are not
+-- the first reason why they are not
 abbrev pub FaultSays : Config → List ℕ → ℕ → ℕ → Fault → Type 0
 FaultSays c z slots m Fault.FewSlots = slots < c .count m
-FaultSays c z slots m Fault.Presence = 2 ≤ getD z (placeOf slots m) 0
-FaultSays c z slots m Fault.Processors = SetOf c z slots m Processors → ⊥
-FaultSays c z slots m Fault.Devices = SetOf c z slots m Devices → ⊥
+FaultSays c z slots m Fault.Presence = (c .count m ≤ slots) × (2 ≤ getD z (placeOf slots m) 0)
+FaultSays c z slots m Fault.Processors = (c .count m ≤ slots) × (getD z (placeOf slots m) 0 < 2) × (SetOf c z slots m Processors → ⊥)
+FaultSays c z slots m Fault.Devices = (c .count m ≤ slots) × (getD z (placeOf slots m) 0 < 2) × SetOf c z slots m Processors × (SetOf c z slots m Devices → ⊥)
 
 abbrev pub JudgeSays : Config → List ℕ → ℕ → ℕ → Judged → Type 0
 JudgeSays c z slots m Judged.Right = MachineRight c z slots m
@@ -91,12 +91,21 @@ pub record FirstFrame (b : Mem) (k : ℕ) : Type 0 where
 abbrev pub Unsound : Mem → Type 0 → Type 0
 Unsound b Reason = Reason × (Sound b → ⊥)
 
+-- the table and the machines' words are right
+abbrev pub InOrder : Mem → Type 0
+InOrder b = Machines (b .table) (b .zones) (configIn b .machines) (slotsOf b)
+
+-- and the frames are clean
+abbrev pub IsClean : Mem → Type 0
+IsClean b = Clean (baseIn b) (b .tree) (b .owners) (b .words)
+
+-- each reason stands behind what was met before it
 abbrev pub CheckSays : Mem → Checked → Type 0
 CheckSays b Checked.Sound = Sound b
 CheckSays b Checked.Table = Unsound b (Writable (b .table) → ⊥)
-CheckSays b Checked.Zones = Unsound b (Shaped (b .zones) (configIn b .machines) → ⊥)
-CheckSays b (Checked.Machine m why) = Unsound b (FirstWrong (configIn b) (b .zones) (slotsOf b) m why)
-CheckSays b Checked.Frames = Unsound b (Clean (baseIn b) (b .tree) (b .owners) (b .words) → ⊥)
-CheckSays b Checked.FewFrames = Unsound b (cap (b .tree) < configIn b .pool .pages)
-CheckSays b Checked.FewPages = Unsound b (configIn b .pool .pages < framesIn (b .words))
-CheckSays b (Checked.Frame k) = Unsound b (FirstFrame b k)
+CheckSays b Checked.Zones = Unsound b (Writable (b .table) × (Shaped (b .zones) (configIn b .machines) → ⊥))
+CheckSays b (Checked.Machine m why) = Unsound b (Writable (b .table) × Shaped (b .zones) (configIn b .machines) × FirstWrong (configIn b) (b .zones) (slotsOf b) m why)
+CheckSays b Checked.Frames = Unsound b (InOrder b × (IsClean b → ⊥))
+CheckSays b Checked.FewFrames = Unsound b (InOrder b × IsClean b × (cap (b .tree) < configIn b .pool .pages))
+CheckSays b Checked.FewPages = Unsound b (InOrder b × IsClean b × (configIn b .pool .pages ≤ cap (b .tree)) × (configIn b .pool .pages < framesIn (b .words)))
+CheckSays b (Checked.Frame k) = Unsound b (InOrder b × IsClean b × (configIn b .pool .pages ≤ cap (b .tree)) × (framesIn (b .words) ≤ configIn b .pool .pages) × FirstFrame b k)

@@ -4,9 +4,9 @@ use mathlib.Core.Path.{_≡_, refl, sym, _∙_, ap, subst}
 use mathlib.Core.Bool.{true, false}
 use mathlib.Core.List.{List}
 use Prim.Native.Nat.{ℕ, zero, _+_, _*_, _/_, _≤_, _<_}
-use lib.ListN.{length, getD, replicate, length-replicate, getD-replicate, List·getD-eq-default}
-use native.Mathlib.Decide.{decLt}
+use lib.ListN.{length, getD, replicate, length-replicate}
 use native.Mathlib.Omega.{arith}
+use Rattle.base.proofs.Ranges.{zero-word}
 use Rattle.set_model.specs.Sets.{table}
 use Rattle.config_view.specs.Table.{tableConfig}
 use Rattle.owners.specs.States.{state, Matched}
@@ -46,11 +46,7 @@ zeros-long w = length-replicate (length w) 0
 
 zeros-blank : (w : List ℕ) → Blank (zeros w)
 unfolding zeros
-zeros-blank w j = go (decLt j (length w))
-  where
-    go : Dec (j < length w) → _≡_ {A = ℕ} (getD (replicate (length w) 0) j 0) 0
-    go (yes l) = getD-replicate (length w) j 0 0 l
-    go (no l) = List·getD-eq-default (replicate (length w) 0) 0 (let e = length-replicate {A = ℕ} (length w) 0 in omega (arith, l))
+zeros-blank w j = zero-word (length w) j
 
 -- ---- the memories with all contents 0
 

@@ -9,5 +9,5 @@ use Rattle.hv_state.specs.Memory.{Mem}
 use Rattle.run_items.specs.Running.{Transcript}
 use Rattle.hv_run.specs.Sequence.{Sequence}
 
-pub served-all : {s : List ℕ} {b b′ : Mem} {replies answers : List ℕ} {n : ℕ} → Items s n → Transcript s b b′ replies answers → Sequence s b b′ replies answers n
+pub served-all : {s : List ℕ} {b b′ : Mem} {replies answers replies′ answers′ : List ℕ} {n : ℕ} → Items s n → Transcript s b b′ replies answers replies′ answers′ → Sequence s b b′ replies answers replies′ answers′ n
 served-all i t = record { transcript = t; count = ap (length {A = Item}) (framed-once (t .framed) (i .framed)) ∙ i .count }

@@ -4,9 +4,9 @@
 // and the owners, and at the end the words for the replies and for the answers to members of lists.
 //
 // The function takes any words and any bytes. Bytes that are no sequence of calls are refused before anything
-// is done; a malformed request in a sequence is replied to so, and changes nothing. The spare memory and the
-// words for replies and answers may change in any case. Where the memories are sound, they stay so, and mean
-// what the calls make of what they meant.
+// is done; a malformed request in a sequence is replied to so, and changes nothing. The spare memory may
+// change in any case, of the words for replies and answers none but three for each call and those of lists'
+// members. Where the memories are sound, they stay so, and mean what the calls make of what they meant.
 ghost use Rattle.hv_state.specs.Serving.{mem};
 ghost use Rattle.hv_run.specs.Sequence.{RanSays};
 use call_bytes::Framing;

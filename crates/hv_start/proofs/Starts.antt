@@ -2,11 +2,7 @@
 use mathlib.Core.Path.{_≡_, sym, _∙_, ap, subst}
 use mathlib.Core.List.{List}
 use Prim.Native.Nat.{ℕ, _/_}
-use lib.Dec.{ltb}
 use native.Mathlib.Omega.{arith}
-use borrow.Author.Tests.{ltb-true, ltb-false}
-use Rattle.base.specs.Choices.{pick}
-use Rattle.base.proofs.Choices.{by}
 use Rattle.config_model.specs.Config.{Same}
 use Rattle.config_bytes.specs.Fields.{configOf, machines}
 use Rattle.config.specs.declared.Loaded.{Loaded}
@@ -14,21 +10,20 @@ use Rattle.config.specs.Loading.{WasLoaded, LoadSays}
 use Rattle.config.specs.Tables.{Writable}
 use Rattle.config_theorems.proofs.Verdicts.{no-reason}
 use Rattle.config_theorems.proofs.Strings.{Bytes, loaded-same, loaded-writable}
-use Rattle.owners.specs.States.{State.Free, State.Reserved, state}
+use Rattle.owners.specs.States.{state}
 use Rattle.contents.specs.Contents.{framesIn, Clean}
 use Rattle.claims.specs.declared.Unfit.{Unfit}
 use Rattle.claims.specs.Fits.{Misfit}
 use Rattle.frames_pool.specs.declared.Begun.{Begun}
 use Rattle.frames_pool.specs.Pool.{Init, InitSays}
-use Rattle.machine.specs.Run.{start}
-use Rattle.machine.specs.Good.{PlanOk, Good}
-use Rattle.machine.proofs.Keeps.{start-good}
+use Rattle.machine.specs.Good.{PlanOk}
 use Rattle.zones.specs.Layout.{slotsIn, Shaped}
-use Rattle.hv_state.specs.Memory.{Mem, configIn, slotsOf, planOf, decode, Sound}
+use Rattle.hv_state.specs.Memory.{Mem, configIn, slotsOf, planOf}
 use Rattle.hv_state.proofs.Zones.{slots-kept, shaped-kept}
+use Rattle.hv_state.proofs.Beginning.{Begins, means-start, begins-sound}
 use Rattle.hv_start.specs.Starting.{Right, Framed, Ready, Zeros, WasStarted, MayStartSays}
 use Rattle.hv_start.specs.declared.MayStart.{MayStart}
-use Rattle.hv_start.proofs.Empty.{frames-zero, absent, empty, zones-ok}
+use Rattle.hv_start.proofs.Empty.{frames-zero}
 
 -- ---- what was found right is not refused afterwards
 
@@ -82,28 +77,16 @@ module _ (s : List ℕ) (b b′ : Mem) (small : Bytes s) (r : Ready s b) (l : Is
         frames = let p = same .pool-pages in let c = i .begun .words in let k = r .frames .pages in omega arith;
       }
 
-  frame-is : (k : ℕ) → state (b′ .tree) (b′ .owners) k ≡ pick (ltb k (framesIn (b′ .words))) Free Reserved
-  frame-is k =
-      by (λ f. state (b′ .tree) (b′ .owners) k ≡ f) (ltb k (framesIn (b′ .words))) Free Reserved
-      (λ q. i .begun .free k (let h = ltb-true k (framesIn (b′ .words)) q in let u = usable in omega arith))
-      (λ q. i .begun .reserved k (let h = ltb-false k (framesIn (b′ .words)) q in let u = usable in omega arith))
-
-  state-is : decode b′ ≡ start (planOf b′)
-  state-is =
-      λ j. record {
-        present = λ m. absent (b .zones) (b′ .zones) (configIn b′ .machines) e m j;
-        set = λ m w. empty (b .zones) (b′ .zones) (configIn b′ .machines) e m w j;
-        frame = λ k. frame-is k j;
-        word = λ k. frames-zero (b .words) (b′ .words) (r .frames .lent .backed .whole) (i .wiped) k j;
-      }
-
-  sound : Sound b′
-  sound =
+  begins-here : Begins b′
+  begins-here =
       record {
         table = writable;
-        zones = zones-ok (b .zones) (b′ .zones) (configIn b′ .machines) e shaped;
+        plan = plan-ok;
+        shaped = shaped;
+        none = e .zero;
         frames = subst (λ (x : ℕ). Clean x (b′ .tree) (b′ .owners) (b′ .words)) (sym (same .pool-host)) (i .clean);
-        good = subst (Good (planOf b′)) (sym state-is) (start-good (planOf b′) plan-ok);
+        free = λ k h. i .begun .free k (let u = usable in omega arith);
+        cleared = frames-zero (b .words) (b′ .words) (r .frames .lent .backed .whole) (i .wiped);
       }
 
   was-started : WasStarted s b b′
@@ -111,8 +94,8 @@ module _ (s : List ℕ) (b b′ : Mem) (small : Bytes s) (r : Ready s b) (l : Is
       record {
         right = r .right;
         table = l .was .is;
-        sound = sound;
-        state = state-is;
+        sound = begins-sound b′ begins-here;
+        state = means-start b′ begins-here;
         zones = e .long;
         tree = i .begun .words;
         owners = i .begun .bytes;

@@ -10,7 +10,7 @@ use native.Mathlib.Omega.{arith}
 use borrow.Author.Tests.{lt-ltb, le-ltb}
 use Rattle.base.specs.Ranges.{Outside, Only}
 use Rattle.base.specs.Choices.{pick, both, at}
-use Rattle.base.proofs.Choices.{by, is-at}
+use Rattle.base.proofs.Choices.{is-at}
 use Rattle.address.specs.declared.Region.{Region}
 use Rattle.set_slots.specs.Slots.{regionsIn, SetOk, Became}
 use Rattle.machine.specs.declared.Which.{Which}

@@ -1,6 +1,6 @@
 -- A machine is removed whole: what the memories mean afterwards is the step's. Assumes nothing.
 use mathlib.Core.Path.{_≡_, refl, sym, _∙_, ap, subst}
-use mathlib.Core.Bool.{Bool, true, false, not}
+use mathlib.Core.Bool.{Bool, true, false}
 use mathlib.Core.List.{List, []}
 use Prim.Native.Nat.{ℕ, _+_, _*_, _/_, _%_, _-_, _≤_, _<_, min}
 use lib.Dec.{eqb}
@@ -10,7 +10,7 @@ use native.Mathlib.Omega.{arith}
 use Rattle.base.specs.Ranges.{Only, Emptied}
 use Rattle.base.specs.Choices.{pick, at}
 use Rattle.base.proofs.Choices.{never, is-at}
-use Rattle.region_words.specs.Words.{numberOf, nothing}
+use Rattle.region_words.specs.Words.{numberOf}
 use Rattle.config_view.specs.Table.{tableConfig}
 use Rattle.set_model.specs.Sets.{table, Ordered}
 use Rattle.set_slots.specs.Slots.{slot, regionsIn, SetOk}
@@ -23,7 +23,7 @@ use Rattle.frames_pool.specs.Pool.{Released, Homeless}
 use Rattle.machine.specs.declared.Which.{Which}
 use Rattle.machine.specs.declared.Request.the-variants.{RemoveZoneWhole}
 use Rattle.machine.specs.declared.Answer.{Answer}
-use Rattle.machine.specs.State.{out, isMine, gone}
+use Rattle.machine.specs.State.{out, isMine}
 use Rattle.machine.specs.Step.{machineOf}
 use Rattle.machine.proofs.Frames.{mine-is, is-mine}
 use Rattle.machine.proofs.Cases.{of-present}
@@ -36,15 +36,6 @@ use Rattle.hv_state.proofs.Zones.{slots-kept, shaped-kept, present-is, set-is, 
 use Rattle.hv_asker.specs.declared.Client.{Client}
 use Rattle.hv_asker.specs.Asking.{IsClient}
 use Rattle.hv_whole.specs.Freeing.{FreedSays}
-
--- what `if !answer` tells of the answer
-pub is-true : (b : Bool) → not b ≡ false → b ≡ true
-is-true true e = refl
-is-true false e = sym e
-
-pub is-false : (b : Bool) → not b ≡ true → b ≡ false
-is-false true e = sym e
-is-false false e = refl
 
 -- ---- frames
 

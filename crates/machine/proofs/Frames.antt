@@ -6,7 +6,7 @@ use lib.Dec.{eqb, leb}
 use native.Mathlib.Omega.{arith}
 use borrow.Author.Tests.{eq-eqb, ne-eqb, eqb-true, leb-true, le-leb}
 use Rattle.base.specs.Choices.{both, allFrom}
-use Rattle.base.proofs.Choices.{never, both-left, both-right, both-yes, all-at, all-yes, lowest-yes, lowest-before}
+use Rattle.base.proofs.Choices.{never, is-false, is-true, both-left, both-right, both-yes, all-at, all-yes, lowest-yes, lowest-before}
 use Rattle.owners.specs.States as frames
 use Rattle.owners.specs.States.{State.Free, State.Reserved, State.Owned}
 use Rattle.machine.specs.State.{Plan, State, isFree, isMine}
@@ -83,20 +83,12 @@ run-fits p s n a k al l f = both-yes (eq-eqb (k % 2 ^ a) 0 al) (both-yes (le-leb
 
 -- ---- frames to be given back
 
-not-true : (b : Bool) → not b ≡ true → b ≡ false
-not-true true e = sym e
-not-true false e = refl
-
-not-not : (b : Bool) → not b ≡ false → b ≡ true
-not-not true e = refl
-not-not false e = sym e
-
 -- every frame before the first other one is m's
 pub before-other : (f : ℕ → frames.State) (m k n : ℕ) (j : ℕ) → k ≤ j → j < firstOther f m k n → f j ≡ Owned m
 before-other f m k n j l h =
     let e : k + (j - k) ≡ j = omega arith in
-    mine-is m (f j) (rw e at (not-not (isMine m (f (k + (j - k)))) (lowest-before (λ i. not (isMine m (f (k + i)))) n (j - k) (omega arith))))
+    mine-is m (f j) (rw e at (is-true (isMine m (f (k + (j - k)))) (lowest-before (λ i. not (isMine m (f (k + i)))) n (j - k) (omega arith))))
 
 -- and the first other one is not
 pub at-other-one : (f : ℕ → frames.State) (m k n : ℕ) → firstOther f m k n < k + n → f (firstOther f m k n) ≡ Owned m → ⊥
-at-other-one f m k n h e = never (sym (is-mine m (f (firstOther f m k n)) e) ∙ not-true (isMine m (f (firstOther f m k n))) (lowest-yes (λ i. not (isMine m (f (k + i)))) n (omega arith)))
+at-other-one f m k n h e = never (sym (is-mine m (f (firstOther f m k n)) e) ∙ is-false (isMine m (f (firstOther f m k n))) (lowest-yes (λ i. not (isMine m (f (k + i)))) n (omega arith)))

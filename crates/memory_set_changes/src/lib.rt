@@ -66,15 +66,15 @@ pub fn remove_starting_at(words: &mut [u64], at: usize, slots: usize, guest: u64
     match set_claims::count(words, at, slots) {
         Size::No(bad) => TakenOut::Bad(bad),
         Size::Is(n) => {
-            let p = set_slots::first_starting(words, at, n, guest);
-            if n <= p {
+            let i = set_slots::first_starting(words, at, n, guest);
+            if n <= i {
                 return TakenOut::NotThere;
             }
-            if !set_slots::used_ok(words, at, p) {
+            if !set_slots::used_ok(words, at, i) {
                 return TakenOut::Bad(Bad::Corrupt);
             }
-            let r = region_words::get(words, at + 1 + 4 * p);
-            set_shifts::take_out(words, at, p, n - 1);
+            let r = region_words::get(words, at + 1 + 4 * i);
+            set_shifts::take_out(words, at, i, n - 1);
             TakenOut::Was(r)
         }
     }

@@ -1,5 +1,5 @@
 -- Machines. Assumes nothing.
-use mathlib.Core.Path.{_≡_, sym, _∙_}
+use mathlib.Core.Path.{_≡_, refl, sym, _∙_, fun-ext}
 use mathlib.Core.Bool.{true, false}
 use Prim.Native.Nat.{ℕ}
 use Rattle.base.proofs.Choices.{never}
@@ -10,14 +10,23 @@ use Rattle.address.proofs.Theorems.{stays-inside}
 use Rattle.set_model.specs.Sets.{covers, any, find}
 use Rattle.set_model.proofs.Tests.{covers-contains}
 use Rattle.set_model.proofs.Lists.{find-in, find-passes, every-in}
-use Rattle.owners.specs.States.{State.Owned}
 use Rattle.machine.specs.declared.Which.{Which}
+use Rattle.machine.specs.declared.Request.the-variants.{AddZone}
 use Rattle.machine.specs.State.{Plan, State}
+use Rattle.machine.specs.Step.{absent}
 use Rattle.machine.specs.Good.{given, Good}
+use Rattle.machine.proofs.Frames.{not-mine}
+use Rattle.original.specs.Terms.{nothing, insert, freeSet, ownedSet}
 
--- A machine that is not there owns nothing, and so none that has just been added.
-pub absent-owns-nothing : (p : Plan) (s : State) → Good p s → (m k : ℕ) → s .present m ≡ false → s .frame k ≡ Owned m → ⊥
-absent-owns-nothing p s g m k e f = never (sym (g .frames .owner m k f) ∙ e)
+-- To add a machine that is not there inserts it, and changes no frame: it owns nothing, and the free frames are the same.
+pub added-present : (s : State) (m : ℕ) → absent s m AddZone .state .present ≡ insert (s .present) m
+added-present s m = refl
+
+pub added-owns-nothing : (p : Plan) (s : State) → Good p s → (m : ℕ) → s .present m ≡ false → ownedSet (absent s m AddZone .state .frame) m ≡ nothing
+added-owns-nothing p s g m e = fun-ext (λ k. not-mine m (s .frame k) (λ f. never (sym (g .frames .owner m k f) ∙ e)))
+
+pub added-free-set : (s : State) (m : ℕ) → freeSet (absent s m AddZone .state .frame) ≡ freeSet (s .frame)
+added-free-set s m = refl
 
 -- a host address is in the host range of a region that the machine is given
 pub record OfGiven (p : Plan) (m : ℕ) (w : Which) (h : ℕ) : Type 0 where

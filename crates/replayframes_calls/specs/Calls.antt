@@ -1,15 +1,13 @@
--- What the exported functions for calls say: that the bytes were served with an answer of which the result is the code, and what stands
+-- What the exported function for calls says: that the bytes were served with an answer of which the result is the code, and what stands
 -- behind the pointers its numbers. Assumes nothing.
 use mathlib.Core.Path.{_≡_}
 use mathlib.Core.List.{List}
 use Prim.Native.Nat.{ℕ}
-use Rattle.codes.specs.Codes.{Valued, done, broken, fewWords, badSpare}
+use Rattle.codes.specs.Codes.{fewWords, badSpare}
 use Rattle.reply_words.specs.Replies.{codeIn, indexIn, placeIn}
 use Rattle.hv_state.specs.Memory.{Mem}
 use Rattle.hv_serve.specs.declared.Called.{Called}
 use Rattle.hv_serve.specs.Called.{CalledSays}
-use Rattle.hv_run.specs.declared.Ran.{Ran}
-use Rattle.hv_run.specs.Sequence.{RanSays}
 
 -- the code of what is replied to a call
 abbrev pub calledCode : Called → ℕ
@@ -29,20 +27,6 @@ calledAddress (Called.Replied said) old = placeIn said old
 calledAddress Called.FewWords old = old
 calledAddress Called.Spare old = old
 
--- the code of what came of a sequence of calls
-abbrev pub ranCode : Ran → ℕ
-ranCode (Ran.Done n) = done
-ranCode (Ran.Broken q) = broken
-ranCode Ran.FewWords = fewWords
-ranCode Ran.Spare = badSpare
-
--- how many calls were served, or where the bytes are no sequence, or `old` where they were not looked at
-abbrev pub ranOffset : Ran → ℕ → ℕ
-ranOffset (Ran.Done n) old = n
-ranOffset (Ran.Broken q) old = q
-ranOffset Ran.FewWords old = old
-ranOffset Ran.Spare old = old
-
 -- r is the code of what is replied to a call, and the two pointers hold its index and its address, or what they held where it has none
 pub record CallCode (Says : Called → Type 0) (index index′ address address′ r : ℕ) : Type 0 where
   pub answer : Called
@@ -54,8 +38,3 @@ pub record CallCode (Says : Called → Type 0) (index index′ address address�
 -- the call that the bytes s are was served: the memories were b and are b′, and r is the code of what is replied
 abbrev pub ServeCode : List ℕ → List ℕ → List ℕ → List ℕ → List ℕ → Mem → ℕ → Mem → List ℕ → ℕ → ℕ → ℕ → ℕ → ℕ → Type 0
 ServeCode s buffer spareZones spareTree spareOwners b number b′ buffer′ index index′ address address′ r = CallCode (CalledSays s buffer spareZones spareTree spareOwners b number b′ buffer′) index index′ address address′ r
-
--- the sequence of calls that the bytes s are was served: the memories were b and are b′, r is the code of what came of it, and the pointer
--- holds its number, or what it held where it has none
-abbrev pub RunCode : List ℕ → List ℕ → List ℕ → List ℕ → List ℕ → List ℕ → Mem → Mem → List ℕ → List ℕ → ℕ → ℕ → ℕ → Type 0
-RunCode s replies answers spareZones spareTree spareOwners b b′ replies′ answers′ offset offset′ r = Valued (RanSays s replies answers spareZones spareTree spareOwners b b′ replies′ answers′) ranCode ranOffset offset offset′ r

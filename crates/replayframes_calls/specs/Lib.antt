@@ -1,2 +1,2 @@
--- What the contracts of the exported functions cite.
+-- What the contract of the exported function cites.
 pub mod Calls

@@ -8,6 +8,7 @@ use Rattle.config.specs.Loading.{LoadSays}
 use Rattle.config.specs.declared.Verdict.{Verdict}
 use Rattle.config.specs.declared.Loaded.{Loaded}
 use Rattle.config_codes.specs.declared.Four.{Four}
+use Rattle.codes.specs.Codes.{noTable}
 use Rattle.config_codes.specs.Codes.{fourOf, reasonCode, reasonNumbers}
 
 -- the code of a verdict, and its numbers
@@ -30,7 +31,7 @@ pub record CheckCode (s : List ℕ) (first second third fourth r : ℕ) : Type 0
 abbrev pub loadedCode : Loaded → ℕ
 loadedCode (Loaded.Done n) = 0
 loadedCode (Loaded.Refused r) = reasonCode r
-loadedCode Loaded.NoTable = 45
+loadedCode Loaded.NoTable = noTable
 
 -- r is the code of an answer
 pub record LoadCode (s t t′ : List ℕ) (r : ℕ) : Type 0 where

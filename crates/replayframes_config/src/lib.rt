@@ -2,6 +2,7 @@
 // lengths. Each answers 0 or a reason; config_codes has the numbers of the reasons and of their places.
 // Nothing is demanded of the caller beyond the types.
 ghost use Rattle.replayframes_config.specs.Configuration.{CheckCode, LoadCode};
+use codes::RF_NO_TABLE;
 use config::Loaded;
 use config::Verdict;
 
@@ -44,6 +45,6 @@ pub extern "C" fn rf_config_load(bytes: &[u8], table: &mut [u64]) -> u32
     match config::load(bytes, table) {
         Loaded::Done(_) => 0,
         Loaded::Refused(r) => config_codes::code_of(r),
-        Loaded::NoTable => 45,
+        Loaded::NoTable => RF_NO_TABLE,
     }
 }

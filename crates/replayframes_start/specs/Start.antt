@@ -1,7 +1,7 @@
 -- What the exported start and check say: that the start or the check answered something of which the result is the code. Assumes nothing.
 use mathlib.Core.List.{List}
 use Prim.Native.Nat.{ℕ}
-use Rattle.codes.specs.Codes.{Coded, done, corrupt, unbacked, badZones, fewSlots, poolTooLarge, framesTooMany}
+use Rattle.codes.specs.Codes.{Coded, done, corrupt, noTable, unbacked, badZones, fewSlots, poolTooLarge, framesTooMany}
 use Rattle.reason_codes.specs.Reasons.{unfitCode}
 use Rattle.config_codes.specs.Codes.{reasonCode}
 use Rattle.hv_state.specs.Memory.{Mem}
@@ -28,7 +28,7 @@ framesCode BadFrames.FewPages = framesTooMany
 
 -- why nothing was started
 abbrev pub notStartedCode : NotStarted → ℕ
-notStartedCode NotStarted.NoTable = 45
+notStartedCode NotStarted.NoTable = noTable
 notStartedCode (NotStarted.Config why) = reasonCode why
 notStartedCode (NotStarted.Zones why) = zonesCode why
 notStartedCode (NotStarted.Frames why) = framesCode why

@@ -8,6 +8,7 @@ use codes::RF_CORRUPT;
 use codes::RF_DONE;
 use codes::RF_FEW_SLOTS;
 use codes::RF_FRAMES_TOO_MANY;
+use codes::RF_NO_TABLE;
 use codes::RF_POOL_TOO_LARGE;
 use codes::RF_UNBACKED;
 use codes::RF_ZONES;
@@ -45,7 +46,7 @@ fn not_started(why: NotStarted) -> u32
     ensures { λ r. ⌜ r ≡ notStartedCode why ⌝ }
 {
     match why {
-        NotStarted::NoTable => 45,
+        NotStarted::NoTable => RF_NO_TABLE,
         NotStarted::Config(reason) => config_codes::code_of(reason),
         NotStarted::Zones(zones) => zones_code(zones),
         NotStarted::Frames(frames) => frames_code(frames),

@@ -3,17 +3,15 @@
 use mathlib.Core.Path.{_≡_, refl, sym, _∙_, ap}
 use mathlib.Core.Bool.{Bool, true, false, not}
 use mathlib.Core.List.{List, [], _∷_}
-use Prim.Native.Nat.{ℕ, zero, suc, _+_, _*_, _<_, _≤_, suc-le-suc, zero-le}
-use lib.Dec.{ltb}
+use Prim.Native.Nat.{suc, _+_, _*_, _<_, _≤_, suc-le-suc, zero-le}
 use lib.ListN.{length}
 use native.Mathlib.Omega.{arith}
-use borrow.Author.Tests.{ltb-true}
 use Rattle.base.specs.Choices.{pick}
-use Rattle.base.proofs.Choices.{never}
+use Rattle.base.proofs.Choices.{never, is-false}
 use Rattle.address.specs.declared.Region.{Region}
 use Rattle.set_model.specs.Sets.{same, meets, any, In, Every, without, Ordered}
 use Rattle.set_model.proofs.Tests.{same-is, meets-self}
-use Rattle.set_model.proofs.Lists.{any-cases, any-here, any-there, any-head, any-tail, every-in, behind-apart, in-without-stays}
+use Rattle.set_model.proofs.Lists.{any-head, any-tail, behind-apart, in-without-stays}
 
 -- x is none of the list
 abbrev None : Region → List Region → Type 0
@@ -32,14 +30,10 @@ shorter x (w ∷ ws) e = go (same x w) e (shorter x ws)
     go true f more = refl
     go false f more = ap suc (more f)
 
-not-false : (b : Bool) → not b ≡ true → b ≡ false
-not-false true e = sym e
-not-false false e = refl
-
 -- what is given and is not x is given without x
 still-given : (x : Region) (l g : List Region) → None x l → Every (λ y. any (same y) g) l → Every (λ y. any (same y) (without (same x) g)) l
 still-given x [] g n e = tt
-still-given x (y ∷ ys) g n e = (in-without-stays (same x) y g (not-false (same x y) (n .0)) (e .0), still-given x ys g (n .1) (e .1))
+still-given x (y ∷ ys) g n e = (in-without-stays (same x) y g (is-false (same x y) (n .0)) (e .0), still-given x ys g (n .1) (e .1))
 
 pigeon : (l g : List Region) → Distinct l → Every (λ x. any (same x) g) l → length l ≤ length g
 pigeon [] g d e = zero-le

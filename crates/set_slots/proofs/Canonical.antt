@@ -14,7 +14,7 @@ use Rattle.set_slots.specs.Slots.{slot, regionsIn, SetOk}
 use Rattle.set_slots.proofs.Order.{own-words}
 
 -- the regions of a table by their place
-table-at : (f : ℕ → Region) (n i : ℕ) → i < n → getD (table f n) i nothing ≡ f i
+pub table-at : (f : ℕ → Region) (n i : ℕ) → i < n → getD (table f n) i nothing ≡ f i
 table-at f zero i h = absurd (not-suc-le-zero h)
 table-at f (suc n) zero h = refl
 table-at f (suc n) (suc i) h = table-at (λ i. f (suc i)) n i (le-of-suc-le-suc h)

@@ -37,6 +37,11 @@ pub record Flagged (z : List ℕ) (n : ℕ) : Type 0 where
   pub shaped : Shaped z n
   pub flags : (m : ℕ) → m < n → getD z (placeOf (slotsIn z n) m) 0 < 2
 
+-- the words are those of n machines, and machine m's first word says whether it is there
+pub record PresenceTold (z : List ℕ) (n m : ℕ) : Type 0 where
+  pub shaped : Shaped z n
+  pub flag : getD z (placeOf (slotsIn z n) m) 0 < 2
+
 abbrev pub ShapeSays : List ℕ → ℕ → Shape → Type 0
 ShapeSays z n (Shape.Slots s) = Shaped z n × (s ≡ slotsIn z n)
 ShapeSays z n Shape.Wrong = Shaped z n → ⊥
@@ -54,10 +59,10 @@ abbrev pub LookSays : List ℕ → ℕ → ℕ → Located → Type 0
 LookSays z n m (Located.Here zone) = IsZone z n m zone × (getD z (placeOf (slotsIn z n) m) 0 ≡ 1)
 LookSays z n m (Located.Away zone) = IsZone z n m zone × (getD z (placeOf (slotsIn z n) m) 0 ≡ 0)
 LookSays z n m Located.NoMachine = ⊥
-LookSays z n m Located.Corrupt = Flagged z n → ⊥
+LookSays z n m Located.Corrupt = PresenceTold z n m → ⊥
 
 abbrev pub LocateSays : List ℕ → List ℕ → ℕ → Located → Type 0
 LocateSays t z number (Located.Here zone) = (length t ≡ 8325) × LookSays z (tableConfig t .machines) (machineOf (tableConfig t) number) (Located.Here zone)
 LocateSays t z number (Located.Away zone) = (length t ≡ 8325) × LookSays z (tableConfig t .machines) (machineOf (tableConfig t) number) (Located.Away zone)
 LocateSays t z number Located.NoMachine = (length t ≡ 8325) × (machineOf (tableConfig t) number ≡ tableConfig t .machines)
-LocateSays t z number Located.Corrupt = length t ≡ 8325 → Flagged z (tableConfig t .machines) → ⊥
+LocateSays t z number Located.Corrupt = length t ≡ 8325 → (machineOf (tableConfig t) number < tableConfig t .machines) × LookSays z (tableConfig t .machines) (machineOf (tableConfig t) number) Located.Corrupt

@@ -4,6 +4,7 @@ use Rattle.hv_asker.proofs.who_asks.Statement.{statement}
 use Rattle.hv_asker.proofs.who_asks.Tie as tie
 use Rattle.base.proofs.Says.{told}
 use Rattle.zones.specs.Layout.{LocateSays}
+use Rattle.zones.proofs.Laws.{not-corrupt}
 use Rattle.hv_asker.specs.Asking.{Unasked}
 use Rattle.hv_asker.proofs.Laws.{flag-here, flag-away}
 
@@ -23,7 +24,7 @@ enum-known-zone : tie.Need-enum-known-zone
 enum-known-zone c = search needs
 
 returns : tie.Need-returns
-returns c = told (LocateSays _ _ _) (c .enum-told .given .1) (c .before .before .locate .ensures)
+returns c = not-corrupt (c .before .before .before .before .before .args .table .now) _ (c .before .before .before .before .before .args .number) (told (LocateSays _ _ _) (c .enum-told .given .1) (c .before .before .locate .ensures))
 
 returns-2 : tie.Need-returns-2
 returns-2 c = let h = told (LocateSays _ _ _) (c .enum-told2 .given .1) (c .before .before .locate .ensures) in Unasked.IsNobody (record { none = h .1 })

@@ -55,10 +55,10 @@ returns-3 : tie.Need-returns-3
 returns-3 c = let f = told (CheckTableSays _) (c .enum-told3 .given .1) (c .before .before .check-table .ensures) in table-unsound _ _ _ _ _ (λ x. config-wrong (c .before .before .before .before .before .before .before .before .args .table .now) (c .enum-told3 .given .0 .0) (f .1) (x .ok))
 
 returns-4 : tie.Need-returns-4
-returns-4 c = let f = told (CheckTableSays _) (c .before .before .before .before .n .given .1) (c .before .before .before .before .before .before .check-table .ensures) in zones-unsound _ _ _ _ _ _ (f .1) (told (ShapeSays _ _) (c .enum-told4 .given .1) (c .before .before .measure .ensures))
+returns-4 c = let f = told (CheckTableSays _) (c .before .before .before .before .n .given .1) (c .before .before .before .before .before .before .check-table .ensures) in zones-unsound _ _ _ _ _ _ (f .0) (f .1) (told (ShapeSays _ _) (c .enum-told4 .given .1) (c .before .before .measure .ensures))
 
 returns-5 : tie.Need-returns-5
-returns-5 c = let f = told (CheckTableSays _) (c .before .before .before .before .before .before .before .before .before .n .given .1) (c .before .before .before .before .before .before .before .before .before .before .before .check-table .ensures) in let s = told (ShapeSays _ _) (c .before .before .before .before .before .slots .given .1) (c .before .before .before .before .before .before .before .measure .ensures) in machine-unsound _ _ _ _ _ _ _ _ _ (f .1) (s .1) (told (AllSays _ _ _) (c .before .m .given .1) (c .before .before .before .judge-all .ensures))
+returns-5 c = let f = told (CheckTableSays _) (c .before .before .before .before .before .before .before .before .before .n .given .1) (c .before .before .before .before .before .before .before .before .before .before .before .check-table .ensures) in let s = told (ShapeSays _ _) (c .before .before .before .before .before .slots .given .1) (c .before .before .before .before .before .before .before .measure .ensures) in machine-unsound _ _ _ _ _ _ _ _ _ (f .0) (f .1) (s .0) (s .1) (told (AllSays _ _ _) (c .before .m .given .1) (c .before .before .before .judge-all .ensures))
 
 returns-6 : tie.Need-returns-6
 returns-6 c = search needs

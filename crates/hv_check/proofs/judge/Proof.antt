@@ -6,8 +6,7 @@ use native.Mathlib.Omega.{arith}
 use Prim.Native.Nat.{_≤_}
 use Rattle.base.proofs.Says.{refused, not-refused}
 use Rattle.config_view.specs.Table.{tableConfig}
-use Rattle.machine.specs.declared.Which.the-variants.{Processors, Devices}
-use Rattle.hv_check.proofs.Laws.{place-within, flag-of, set-wrong, machine-right}
+use Rattle.hv_check.proofs.Laws.{place-within, machine-right, presence-wrong, processors-wrong, devices-wrong}
 
 has-room-requires : tie.Need-has-room-requires
 has-room-requires c κs = search needs
@@ -31,19 +30,19 @@ shared-slice-read-flag : tie.Need-shared-slice-read-flag
 shared-slice-read-flag c = let l = place-within (c .before .before .before .before .before .args .zones .now) (c .before .before .before .before .before .args .slots) (c .before .before .before .before .before .args .m) (c .before .before .before .before .before .pre .2) in omega arith
 
 returns-2 : tie.Need-returns-2
-returns-2 c = let e = flag-of (c .before .before .before .before .before .before .args .zones .now) (c .before .before .before .before .before .before .args .slots) (c .before .before .before .before .before .before .args .m) in omega arith
+returns-2 c = presence-wrong (tableConfig (c .before .before .before .before .before .before .args .table .now)) (c .before .before .before .before .before .before .args .zones .now) (c .before .before .before .before .before .before .args .slots) (c .before .before .before .before .before .before .args .m) (not-refused (c .before .before .before .has-room .result) (c .before .before .if1 .left) (c .before .before .before .has-room .ensures)) (omega arith)
 
 is-right-requires : tie.Need-is-right-requires
 is-right-requires c κs = (c .before .before .before .before .before .before .pre .0, c .before .before .before .before .before .before .pre .1, place-within (c .before .before .before .before .before .before .args .zones .now) (c .before .before .before .before .before .before .args .slots) (c .before .before .before .before .before .before .args .m) (c .before .before .before .before .before .before .pre .2))
 
 returns-3 : tie.Need-returns-3
-returns-3 c = set-wrong _ _ _ _ Processors (refused (c .before .is-right .result) (c .if3 .taken) (c .before .is-right .ensures))
+returns-3 c = processors-wrong _ _ _ _ (not-refused (c .before .before .before .before .before .has-room .result) (c .before .before .before .before .if1 .left) (c .before .before .before .before .before .has-room .ensures)) (omega arith) (refused (c .before .is-right .result) (c .if3 .taken) (c .before .is-right .ensures))
 
 is-right-requires-2 : tie.Need-is-right-requires-2
 is-right-requires-2 c κs = (c .before .before .before .before .before .before .before .before .pre .0, (let l = c .before .before .before .before .before .before .before .before .pre .1 in omega arith), place-within (c .before .before .before .before .before .before .before .before .args .zones .now) (c .before .before .before .before .before .before .before .before .args .slots) (c .before .before .before .before .before .before .before .before .args .m) (c .before .before .before .before .before .before .before .before .pre .2))
 
 returns-4 : tie.Need-returns-4
-returns-4 c = set-wrong _ _ _ _ Devices (refused (c .before .is-right2 .result) (c .if4 .taken) (c .before .is-right2 .ensures))
+returns-4 c = devices-wrong _ _ _ _ (not-refused (c .before .before .before .before .before .before .before .has-room .result) (c .before .before .before .before .before .before .if1 .left) (c .before .before .before .before .before .before .before .has-room .ensures)) (omega arith) (not-refused (c .before .before .before .is-right .result) (c .before .before .if3 .left) (c .before .before .before .is-right .ensures)) (refused (c .before .is-right2 .result) (c .if4 .taken) (c .before .is-right2 .ensures))
 
 returns-5 : tie.Need-returns-5
 returns-5 c = machine-right _ _ _ _ (not-refused (c .before .before .before .before .before .before .before .has-room .result) (c .before .before .before .before .before .before .if1 .left) (c .before .before .before .before .before .before .before .has-room .ensures)) (omega arith) (not-refused (c .before .before .before .is-right .result) (c .before .before .if3 .left) (c .before .before .before .is-right .ensures)) (not-refused (c .before .is-right2 .result) (c .if4 .left) (c .before .is-right2 .ensures))

@@ -9,7 +9,8 @@ use Rattle.hv_state.proofs.Serving.{unsound}
 use Rattle.hv_asker.specs.Asking.{ClientSays}
 use Rattle.hv_asker.proofs.Laws.{disordered, unasked}
 use Rattle.hv_whole.specs.Freeing.{FreedSays}
-use Rattle.hv_whole.proofs.Laws.{is-true, is-false, not-freed, whole-served}
+use Rattle.base.proofs.Choices.{is-true, is-false}
+use Rattle.hv_whole.proofs.Laws.{not-freed, whole-served}
 
 client-that-asks-requires : tie.Need-client-that-asks-requires
 client-that-asks-requires c κs = search needs

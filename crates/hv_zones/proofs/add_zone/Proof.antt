@@ -5,6 +5,7 @@ use Rattle.hv_zones.proofs.add_zone.Tie as tie
 use native.Mathlib.Omega.{arith}
 use Rattle.base.proofs.Says.{told}
 use Rattle.zones.specs.Layout.{LocateSays}
+use Rattle.zones.proofs.Laws.{not-corrupt}
 use Rattle.hv_state.proofs.Serving.{unsound}
 use Rattle.hv_asker.proofs.Laws.{disordered}
 use Rattle.hv_zones.proofs.Laws.{nobody, was-there, comes}
@@ -34,7 +35,7 @@ same-length : tie.Need-same-length
 same-length c = search needs
 
 returns : tie.Need-returns
-returns c = λ t o w. unsound _ _ _ _ (disordered _ (told (LocateSays _ _ _) (c .enum-told .given .1) (c .before .before .locate .ensures)))
+returns c = λ t o w. unsound _ _ _ _ (disordered _ (not-corrupt (c .before .before .before .before .before .before .args .table .now) _ (c .before .before .before .before .before .before .args .number) (told (LocateSays _ _ _) (c .enum-told .given .1) (c .before .before .locate .ensures))))
 
 same-length-2 : tie.Need-same-length-2
 same-length-2 c = search needs

@@ -14,7 +14,7 @@ use Rattle.hv_state.specs.Serving.{mem}
 use Rattle.hv_blind.specs.Blind.{Blank}
 use Rattle.list_attempt.specs.Attempting.{Went}
 use Rattle.list_attempt.proofs.Laws.{went-none, halts-here, went-on}
-use Rattle.hv_whole.proofs.Laws.{is-true, is-false}
+use Rattle.base.proofs.Choices.{is-true, is-false}
 
 abbrev Inv-loop : tie.InvT-loop
 Inv-loop table zones₀ tree₀ owners₀ number bytes p n answers₀ at i₀ zones tree owners answers i = (i ≤ n) × (length zones ≡ length zones₀) × (length tree ≡ length tree₀) × (length owners ≡ length owners₀) × (length answers ≡ length answers₀) × ((v : List ℕ) → Blank v → Sound (mem table zones₀ tree₀ owners₀ v) → Went (mem table zones₀ tree₀ owners₀ v) number (λ k. requestAt bytes (p + 33 * k)) i (mem table zones tree owners v) answers at) × Only answers₀ at (at + 2 * n) answers

@@ -10,7 +10,7 @@ use Rattle.hv_calls.specs.Calling.{SpareFits}
 use Rattle.run_items.proofs.Laws.{Ahead, ahead-whole, ahead-next, Before, before-all, before-rest, before-none, spare-stays}
 
 abbrev Inv-loop : tie.InvT-loop
-Inv-loop table zones₀ tree₀ owners₀ words₀ spare-zones₀ spare-tree₀ spare-owners₀ bytes replies₀ answers₀ p₀ r₀ at₀ zones tree owners words spare-zones spare-tree spare-owners replies answers p r at = (p ≤ length bytes) × (r ≤ 3 * (p / 16)) × (at ≤ 2 * (p / 33)) × SpareFits zones tree owners spare-zones spare-tree spare-owners × (length zones ≡ length zones₀) × (length tree ≡ length tree₀) × (length owners ≡ length owners₀) × (length words ≡ length words₀) × (length spare-zones ≡ length spare-zones₀) × (length spare-tree ≡ length spare-tree₀) × (length spare-owners ≡ length spare-owners₀) × (length replies ≡ length replies₀) × (length answers ≡ length answers₀) × Ahead bytes p × Before bytes p r at (mem table zones₀ tree₀ owners₀ words₀) (mem table zones tree owners words) replies answers
+Inv-loop table zones₀ tree₀ owners₀ words₀ spare-zones₀ spare-tree₀ spare-owners₀ bytes replies₀ answers₀ p₀ r₀ at₀ zones tree owners words spare-zones spare-tree spare-owners replies answers p r at = (p ≤ length bytes) × (r ≤ 3 * (p / 16)) × (at ≤ 2 * (p / 33)) × SpareFits zones tree owners spare-zones spare-tree spare-owners × (length zones ≡ length zones₀) × (length tree ≡ length tree₀) × (length owners ≡ length owners₀) × (length words ≡ length words₀) × (length spare-zones ≡ length spare-zones₀) × (length spare-tree ≡ length spare-tree₀) × (length spare-owners ≡ length spare-owners₀) × (length replies ≡ length replies₀) × (length answers ≡ length answers₀) × Ahead bytes p × Before bytes p r at (mem table zones₀ tree₀ owners₀ words₀) (mem table zones tree owners words) replies₀ answers₀ replies answers
 
 abbrev μ-loop : tie.MeasureT-loop
 μ-loop table zones₀ tree₀ owners₀ words₀ spare-zones₀ spare-tree₀ spare-owners₀ bytes replies₀ answers₀ p₀ r₀ at₀ zones tree owners words spare-zones spare-tree spare-owners replies answers p r at = length bytes - p
@@ -40,7 +40,7 @@ loop-less : tie.Need-loop-less Inv-loop μ-loop
 loop-less c = let v = c .before .before .before .before .before .before .before .before .before .before .before .before .before .before .before .before .before .before .before .before .before .before .before .before .before .before .before .before .before .loop .inv in let w = ahead-whole (omega (arith, c .before .before .before .before .before .before .before .before .before .before .before .before .before .before .before .before .before .before .before .before .before .before .before .before .before .before .before .before .loop-test .taken)) (v .13) in let e = c .before .before .before .before .before .before .before .before .before .before .before .before .before .before .before .before .before .before .serve-item .ensures .0 in omega (arith, c .before .before .before .before .before .before .before .before .before .before .before .before .before .before .before .before .before .before .before .before .before .before .before .before .before .before .before .before .before .before .before .before .before .before .before .before .before .before .before .before .before .good, c .before .before .before .before .before .before .before .before .before .before .before .before .before .before .before .before .before .before .before .before .before .before .before .before .before .before .before .before .loop-test .taken)
 
 loop-again : tie.Need-loop-again Inv-loop μ-loop
-loop-again c = let v = c .before .before .before .before .before .before .before .before .before .before .before .before .before .before .before .before .before .before .before .before .before .before .before .before .before .before .before .before .before .loop .inv in let w = ahead-whole (omega (arith, c .before .before .before .before .before .before .before .before .before .before .before .before .before .before .before .before .before .before .before .before .before .before .before .before .before .before .before .before .loop-test .taken)) (v .13) in let e = c .before .before .before .before .before .before .before .before .before .before .before .before .before .before .before .before .before .before .serve-item .ensures .0 in let a = v .1 in let b = v .2 in (omega arith, omega arith, omega arith, spare-stays (v .3) (c .before .before .before .before .before .before .before .before .before .before .before .before .before .before .before .before .before .zones .given) (c .before .before .before .before .before .before .before .before .before .before .before .before .before .before .before .tree .given) (c .before .before .before .before .before .before .before .before .before .before .before .before .before .owners .given) (c .before .before .before .before .before .before .before .before .before .spare-zones .given) (c .before .before .before .before .before .before .before .spare-tree .given) (c .before .before .before .before .before .spare-owners .given), c .before .before .before .before .before .before .before .before .before .before .before .before .before .before .before .before .before .zones .given ∙ v .4, c .before .before .before .before .before .before .before .before .before .before .before .before .before .before .before .tree .given ∙ v .5, c .before .before .before .before .before .before .before .before .before .before .before .before .before .owners .given ∙ v .6, c .before .before .before .before .before .before .before .before .before .before .before .words .given ∙ v .7, c .before .before .before .before .before .before .before .before .before .spare-zones .given ∙ v .8, c .before .before .before .before .before .before .before .spare-tree .given ∙ v .9, c .before .before .before .before .before .spare-owners .given ∙ v .10, c .before .before .before .replies .given ∙ v .11, c .before .answers .given ∙ v .12, subst (λ (n : ℕ). Ahead (c .before .before .before .before .before .before .before .before .before .before .before .before .before .before .before .before .before .before .before .before .before .before .before .before .before .before .before .before .before .before .before .before .before .before .before .before .before .before .before .before .before .args .bytes .now) (c .before .before .before .before .before .before .before .before .before .before .before .before .before .before .before .before .before .before .before .before .before .before .before .before .before .before .before .before .before .loop .p + (16 + n))) (sym e) (ahead-next (omega (arith, c .before .before .before .before .before .before .before .before .before .before .before .before .before .before .before .before .before .before .before .before .before .before .before .before .before .before .before .before .loop-test .taken)) (v .13)), before-rest (c .before .before .before .before .before .before .before .before .before .before .before .before .before .before .before .before .before .before .before .before .before .before .before .before .before .before .before .before .before .before .before .before .before .before .before .before .before .before .before .before .before .args .bytes .now) (c .before .before .before .before .before .before .before .before .before .before .before .before .before .before .before .before .before .before .before .before .before .before .before .before .before .before .before .before .before .loop .p) (c .before .before .before .before .before .before .before .before .before .before .before .before .before .before .before .before .before .before .before .before .before .before .before .before .before .before .before .before .before .loop .r) (c .before .before .before .before .before .before .before .before .before .before .before .before .before .before .before .before .before .before .before .before .before .before .before .before .before .before .before .before .before .loop .at) _ _ _ _ _ _ _ _ e w (v .14) (c .before .before .before .before .before .before .before .before .before .before .before .before .before .before .before .before .before .before .serve-item .ensures .1))
+loop-again c = let v = c .before .before .before .before .before .before .before .before .before .before .before .before .before .before .before .before .before .before .before .before .before .before .before .before .before .before .before .before .before .loop .inv in let w = ahead-whole (omega (arith, c .before .before .before .before .before .before .before .before .before .before .before .before .before .before .before .before .before .before .before .before .before .before .before .before .before .before .before .before .loop-test .taken)) (v .13) in let e = c .before .before .before .before .before .before .before .before .before .before .before .before .before .before .before .before .before .before .serve-item .ensures .0 in let a = v .1 in let b = v .2 in (omega arith, omega arith, omega arith, spare-stays (v .3) (c .before .before .before .before .before .before .before .before .before .before .before .before .before .before .before .before .before .zones .given) (c .before .before .before .before .before .before .before .before .before .before .before .before .before .before .before .tree .given) (c .before .before .before .before .before .before .before .before .before .before .before .before .before .owners .given) (c .before .before .before .before .before .before .before .before .before .spare-zones .given) (c .before .before .before .before .before .before .before .spare-tree .given) (c .before .before .before .before .before .spare-owners .given), c .before .before .before .before .before .before .before .before .before .before .before .before .before .before .before .before .before .zones .given ∙ v .4, c .before .before .before .before .before .before .before .before .before .before .before .before .before .before .before .tree .given ∙ v .5, c .before .before .before .before .before .before .before .before .before .before .before .before .before .owners .given ∙ v .6, c .before .before .before .before .before .before .before .before .before .before .before .words .given ∙ v .7, c .before .before .before .before .before .before .before .before .before .spare-zones .given ∙ v .8, c .before .before .before .before .before .before .before .spare-tree .given ∙ v .9, c .before .before .before .before .before .spare-owners .given ∙ v .10, c .before .before .before .replies .given ∙ v .11, c .before .answers .given ∙ v .12, subst (λ (n : ℕ). Ahead (c .before .before .before .before .before .before .before .before .before .before .before .before .before .before .before .before .before .before .before .before .before .before .before .before .before .before .before .before .before .before .before .before .before .before .before .before .before .before .before .before .before .args .bytes .now) (c .before .before .before .before .before .before .before .before .before .before .before .before .before .before .before .before .before .before .before .before .before .before .before .before .before .before .before .before .before .loop .p + (16 + n))) (sym e) (ahead-next (omega (arith, c .before .before .before .before .before .before .before .before .before .before .before .before .before .before .before .before .before .before .before .before .before .before .before .before .before .before .before .before .loop-test .taken)) (v .13)), before-rest (c .before .before .before .before .before .before .before .before .before .before .before .before .before .before .before .before .before .before .before .before .before .before .before .before .before .before .before .before .before .before .before .before .before .before .before .before .before .before .before .before .before .args .bytes .now) (c .before .before .before .before .before .before .before .before .before .before .before .before .before .before .before .before .before .before .before .before .before .before .before .before .before .before .before .before .before .loop .p) (c .before .before .before .before .before .before .before .before .before .before .before .before .before .before .before .before .before .before .before .before .before .before .before .before .before .before .before .before .before .loop .r) (c .before .before .before .before .before .before .before .before .before .before .before .before .before .before .before .before .before .before .before .before .before .before .before .before .before .before .before .before .before .loop .at) _ _ _ _ _ _ _ _ _ _ e w (v .14) (c .before .before .before .before .before .before .before .before .before .before .before .before .before .before .before .before .before .before .serve-item .ensures .1))
 
 same-length : tie.Need-same-length Inv-loop μ-loop
 same-length c = c .before .loop .inv .4
@@ -70,7 +70,7 @@ same-length-9 : tie.Need-same-length-9 Inv-loop μ-loop
 same-length-9 c = c .before .loop .inv .12
 
 returns : tie.Need-returns Inv-loop μ-loop
-returns c = let v = c .before .loop .inv in let a = v .0 in before-none _ _ _ _ _ _ _ _ (omega (arith, a, c .loop-test .left)) (v .14)
+returns c = let v = c .before .loop .inv in let a = v .0 in before-none _ _ _ _ _ _ _ _ _ _ (omega (arith, a, c .loop-test .left)) (v .14)
 
 pub serve-items-spec : {M : Type 1} → statement M
 serve-items-spec =

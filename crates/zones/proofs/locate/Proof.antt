@@ -50,7 +50,7 @@ returns-4 : tie.Need-returns-4
 returns-4 c = λ l. absurd (told (MachinesSays _) (c .enum-told4 .given .1) (c .before .before .machines .ensures))
 
 returns-5 : tie.Need-returns-5
-returns-5 c = let h = told (MachineSays _ _) (c .before .before .before .before .before .before .m .given .1) (c .before .before .before .before .before .before .before .before .machine .ensures) in let n = told (MachinesSays _) (c .before .before .n .given .1) (c .before .before .before .before .machines .ensures) in located _ _ _ _ _ (c .look .result) (h .0) (sym (number-is _ _ _ (h .1))) (n .1) (c .look .ensures)
+returns-5 c = let h = told (MachineSays _ _) (c .before .before .before .before .before .before .m .given .1) (c .before .before .before .before .before .before .before .before .machine .ensures) in let n = told (MachinesSays _) (c .before .before .n .given .1) (c .before .before .before .before .machines .ensures) in located _ _ _ _ _ (c .look .result) (let l = h .1 .machine in let e = n .1 in omega arith) (h .0) (sym (number-is _ _ _ (h .1))) (n .1) (c .look .ensures)
 
 pub locate-spec : {M : Type 1} → statement M
 locate-spec =

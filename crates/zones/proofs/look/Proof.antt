@@ -42,7 +42,7 @@ returns-3 : tie.Need-returns-3
 returns-3 c = λ f. told (ShapeSays _ _) (c .enum-told .given .1) (c .before .before .measure .ensures) (f .shaped)
 
 returns-4 : tie.Need-returns-4
-returns-4 c = let h = told (ShapeSays _ _) (c .before .before .before .before .slots .given .1) (c .before .before .before .before .before .before .measure .ensures) in flag-wrong _ _ _ _ (h .1) ((c .before .before .before .before .before .before .before .before .pre) .1) (c .before .if1 .left) (c .if2 .left)
+returns-4 c = let h = told (ShapeSays _ _) (c .before .before .before .before .slots .given .1) (c .before .before .before .before .before .before .measure .ensures) in flag-wrong _ _ _ _ (h .1) (c .before .if1 .left) (c .if2 .left)
 
 pub look-spec : {M : Type 1} → statement M
 look-spec =

@@ -1,0 +1,2 @@
+-- What is known of a machine and its sets.
+pub mod Laws

@@ -1,0 +1,2 @@
+-- What is answered of a machine.
+pub mod Looks

@@ -1,0 +1,2 @@
+-- The laws of the search for a tree.
+pub mod Laws

@@ -1,0 +1,2 @@
+-- What the contract of the exported function cites.
+pub mod Sequences

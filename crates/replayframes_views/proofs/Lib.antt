@@ -1,0 +1,2 @@
+-- The laws of answers about a set.
+pub mod Laws

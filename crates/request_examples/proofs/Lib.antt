@@ -1,0 +1,2 @@
+-- An example of every answer.
+pub mod RequestBytes

@@ -1,0 +1,2 @@
+-- What was read and replied is the item's.
+pub mod Laws

@@ -1,0 +1,2 @@
+-- What it is to serve a call of a sequence.
+pub mod Serving
