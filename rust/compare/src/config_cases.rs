@@ -1,11 +1,12 @@
 //! Configurations: ours beside the plain checker, on the truck, on the smallest configuration that breaks each rule, and
-//! on random, truncated and changed bytes.
+//! on random, truncated and changed bytes. The crate `replayframes` must say the same in its names, show what was
+//! accepted, and write the same bytes for it.
 use crate::config_plain::{bytes, check, Answer, Config, Machine, Region};
 use crate::ours;
 use crate::report::grouped;
 use crate::rng::Rng;
-
-const TABLE: usize = 8325;
+use replayframes::config::{self, ConfigRefusal, Fault, Place, Pool, Table};
+use replayframes::{Refusal, TABLE_WORDS};
 
 fn region(guest: u64, host: u64, pages: u64, kind: u8) -> Region {
     Region { guest: guest << 12, host: host << 12, pages, kind }
@@ -43,25 +44,90 @@ pub fn truck() -> Config {
     }
 }
 
-/// Ours and the plain checker agree; what is accepted is loaded, and nothing else changes the table.
+/// The number of a fault.
+fn fault_number(fault: Fault) -> usize {
+    match fault {
+        Fault::NoPage => 1,
+        Fault::GuestStart => 2,
+        Fault::HostStart => 3,
+        Fault::GuestEnd => 4,
+        Fault::HostEnd => 5,
+        Fault::Unknown(number) => number,
+    }
+}
+
+/// The code and the four numbers of what the crate says of a configuration.
+fn numbers(refusal: ConfigRefusal) -> Answer {
+    let two = |at: Place, other: Place| [at.machine, at.region, other.machine, other.region];
+    let numbers = match refusal {
+        ConfigRefusal::TooShort { offset } | ConfigRefusal::LeftOver { offset } => [offset, 0, 0, 0],
+        ConfigRefusal::TooManyRegions { machine } => [machine, 0, 0, 0],
+        ConfigRefusal::UnknownKind { at } | ConfigRefusal::PoolShared { at } => [at.machine, at.region, 0, 0],
+        ConfigRefusal::SameNumber { machine, other } => [machine, other, 0, 0],
+        ConfigRefusal::NotValid { at, fault } => [at.machine, at.region, fault_number(fault), 0],
+        ConfigRefusal::PoolNotValid { fault } => [fault_number(fault), 0, 0, 0],
+        ConfigRefusal::HostShared { at, other } | ConfigRefusal::NotCoinciding { at, other } => {
+            two(at, other)
+        }
+        ConfigRefusal::OneMachine { at, other } | ConfigRefusal::GuestShared { at, other } => {
+            [at.machine, at.region, other.region, 0]
+        }
+        _ => [0; 4],
+    };
+    let [a, b, c, d] = numbers.map(|number| number as u64);
+    [u64::from(refusal.rule().code()), a, b, c, d]
+}
+
+/// What a table shows: the machines' numbers, the regions of each, and the allocator's region.
+type Shown = (Vec<u64>, Vec<Vec<replayframes::Region>>, Pool);
+
+/// All that a table shows, if the counts and places agree with it.
+fn shown(table: Table) -> Result<Shown, Refusal> {
+    let numbers: Vec<u64> = table.numbers().collect::<Result<_, _>>()?;
+    let mut regions: Vec<Vec<replayframes::Region>> = Vec::new();
+    for (place, &number) in numbers.iter().enumerate() {
+        regions.push(table.regions(place).collect::<Result<_, _>>()?);
+        assert_eq!((table.place(number)?, table.region_count(place)?), (place, regions[place].len()));
+    }
+    assert_eq!(table.machine_count()?, numbers.len());
+    Ok((numbers, regions, table.pool()?))
+}
+
+/// What a table shows has these bytes.
+fn shows(table: Table, bytes: &[u8]) -> Result<(), String> {
+    let (numbers, regions, pool) = shown(table).map_err(|refusal| format!("a look is refused: {refusal}"))?;
+    let places = numbers.iter().zip(&regions);
+    let machines: Vec<config::Machine> =
+        places.map(|(&number, regions)| config::Machine { number: number as u16, regions }).collect();
+    let mut buffer = vec![7; bytes.len()];
+    let written = config::Config { machines: &machines, pool }.encode(&mut buffer);
+    if written == Ok(bytes) {
+        return Ok(());
+    }
+    Err(format!("the table shows {written:?}, and not {bytes:?}"))
+}
+
+/// Ours and the plain checker agree; what is accepted is loaded and shown, and nothing else changes the table.
 fn same(bytes: &[u8]) -> Result<Answer, String> {
     let (ours, plain) = (ours::config_check(bytes), check(bytes));
     if ours != plain {
         return Err(format!("ours {ours:?}, plain {plain:?} for {bytes:?}"));
     }
-    let mut table = vec![7; TABLE];
-    let code = ours::config_load(bytes, &mut table);
-    if u64::from(code) != ours[0] {
-        return Err(format!("load answers {code}, check {ours:?} for {bytes:?}"));
+    let named = config::check(bytes).map_or_else(numbers, |()| ours);
+    let mut table = vec![7; TABLE_WORDS];
+    let loaded = Table::load(bytes, &mut table).map(|table| shows(table, bytes)).map_err(Refusal::code);
+    let code = loaded.as_ref().err().copied().unwrap_or(0);
+    if named != ours || u64::from(code) != ours[0] {
+        return Err(format!("load answers {code}, the crate {named:?}, check {ours:?} for {bytes:?}"));
     }
     if code != 0 && table.iter().any(|word| *word != 7) {
         return Err(format!("a refusal wrote the table, for {bytes:?}"));
     }
-    Ok(ours)
+    loaded.unwrap_or(Ok(())).map(|()| ours)
 }
 
 /// Each with the answer that it must have: for every rule the smallest configuration that breaks it and nothing else.
-fn cases() -> Vec<(&'static str, Vec<u8>, Answer)> {
+pub fn smallest() -> Vec<(&'static str, Vec<u8>, Answer)> {
     let small = bytes(&one(vec![]));
     let page = region(0, 0, 1, 0);
     let odd = |guest, host, pages| Region { guest, host, pages, kind: 0 };
@@ -115,19 +181,16 @@ fn cases() -> Vec<(&'static str, Vec<u8>, Answer)> {
 
 /// The bytes of these configurations.
 pub fn smallest_cases() -> impl Iterator<Item = Vec<u8>> {
-    cases().into_iter().map(|(_, bytes, _)| bytes)
+    smallest().into_iter().map(|(_, bytes, _)| bytes)
 }
 
-/// Ours answers each of them as it must.
-pub fn smallest() -> Result<String, String> {
-    let cases = cases();
-    for (name, bytes, wanted) in &cases {
-        let answer = same(bytes)?;
-        if answer != *wanted {
-            return Err(format!("{name}: {answer:?}, wanted {wanted:?}"));
-        }
+/// Ours answers one of them as it must.
+pub fn answered(bytes: &[u8], wanted: Answer) -> Result<String, String> {
+    let answer = same(bytes)?;
+    if answer != wanted {
+        return Err(format!("{answer:?}, wanted {wanted:?}"));
     }
-    Ok(format!("{} configurations", cases.len()))
+    Ok(format!("{} bytes", bytes.len()))
 }
 
 /// Every beginning of the truck's bytes, and every change of one byte.

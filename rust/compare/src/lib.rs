@@ -1,4 +1,4 @@
-//! The proved functions beside others: `ours` calls the proved archives, `upstream` the stripped original,
+//! The proved functions beside others: `ours` calls the proved archive, `upstream` the stripped original,
 //! `model` is a plain array of booleans, and `rival` the same tree written in Rust for speed; `shared` is
 //! the same for the shared allocator, whose frames have owners and contents. `config_plain` is a
 //! plain checker of configurations, and `config_cases` compares ours with it. `machines` is the same for

@@ -10,6 +10,7 @@ pub mod damage;
 pub mod lists;
 pub mod memory;
 pub mod model;
+pub mod monitored;
 pub mod purge;
 pub mod random;
 pub mod reach;

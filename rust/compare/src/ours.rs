@@ -1,9 +1,10 @@
-//! The proved bitmap, through its exported functions. All that is unsafe in this workspace is here and in
-//! the modules beneath: the shared allocator without and with contents, the machines, and their calls.
+//! The proved bitmap, through its exported functions. All that is unsafe in this crate is here and in the
+//! modules beneath for the shared allocator without and with contents; the machines and their calls have their
+//! functions from the crate `replayframes`, which also links the archive.
 use crate::request::{Answer, Reason, Request};
+use replayframes::ffi;
 
 pub mod allocator;
-pub mod calls;
 pub mod frames;
 pub mod machines;
 
@@ -27,27 +28,13 @@ extern "C" {
     fn rf_bitmap_dealloc(tree: *mut u16, len: usize, k: usize) -> u32;
     fn rf_bitmap_insert(tree: *mut u16, len: usize, from: usize, to: usize) -> u32;
     fn rf_bitmap_remove(tree: *mut u16, len: usize, from: usize, to: usize) -> u32;
-    fn rf_config_check(
-        bytes: *const u8,
-        len: usize,
-        first: *mut usize,
-        second: *mut usize,
-        third: *mut usize,
-        fourth: *mut usize,
-    ) -> u32;
-    fn rf_config_load(bytes: *const u8, len: usize, table: *mut u64, words: usize) -> u32;
 }
 
 /// The code and the four numbers of a configuration's verdict.
 pub fn config_check(bytes: &[u8]) -> [u64; 5] {
     let (mut a, mut b, mut c, mut d) = (UNWRITTEN, UNWRITTEN, UNWRITTEN, UNWRITTEN);
-    let code = unsafe { rf_config_check(bytes.as_ptr(), bytes.len(), &mut a, &mut b, &mut c, &mut d) };
+    let code = ffi::rf_config_check(bytes, &mut a, &mut b, &mut c, &mut d);
     [u64::from(code), a as u64, b as u64, c as u64, d as u64]
-}
-
-/// The code of loading a configuration into a table.
-pub fn config_load(bytes: &[u8], table: &mut [u64]) -> u32 {
-    unsafe { rf_config_load(bytes.as_ptr(), bytes.len(), table.as_mut_ptr(), table.len()) }
 }
 
 /// Stands behind the pointer before a call. No answer is this.

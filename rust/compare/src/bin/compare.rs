@@ -51,6 +51,9 @@ struct Plan {
     any_bytes: [usize; 3],
     /// Sets that are out of order.
     sets: usize,
+    /// The crate's monitor: random configurations with 60 requests, calls and sequences each, at 16, 256 and 4096
+    /// frames.
+    monitored: [usize; 3],
 }
 
 const QUICK: Plan = Plan {
@@ -69,6 +72,7 @@ const QUICK: Plan = Plan {
     pairs: [1_500, 300, 20],
     any_bytes: [5_000, 1_000, 50],
     sets: 1_000,
+    monitored: [800, 150, 10],
 };
 const ALL: Plan = Plan {
     sequences: [100_000, 100_000, 20_000, 2_000, 400, 100],
@@ -86,6 +90,7 @@ const ALL: Plan = Plan {
     pairs: [20_000, 4_000, 300],
     any_bytes: [50_000, 10_000, 500],
     sets: 20_000,
+    monitored: [20_000, 4_000, 300],
 };
 /// How many frames the shared allocators of a plan have.
 const SHARED: [usize; 5] = [16, 256, 4096, 65536, 1 << 20];
@@ -136,11 +141,14 @@ fn run(plan: &Plan) -> bool {
     }
     shared_allocator(&mut report, plan);
     shared_contents(&mut report, plan);
-    report.run("the smallest configuration that breaks each rule", config_cases::smallest);
+    for (name, bytes, wanted) in config_cases::smallest() {
+        report.run(&format!("a configuration, {name}"), || config_cases::answered(&bytes, wanted));
+    }
     report.run("the truck's configuration, cut off and changed", config_cases::changed);
     report.run("random configurations", || config_cases::random(plan.configurations));
     truck_and_machines(&mut report, plan);
     calls(&mut report, plan);
+    monitored(&mut report, plan);
     report.end()
 }
 
@@ -185,6 +193,14 @@ fn calls(report: &mut Report, plan: &Plan) {
         report.run(&format!("calls, any bytes at {frames}"), || {
             machines::any_bytes::run::<Ours>(frames, plan.any_bytes[i])
         });
+    }
+}
+
+/// The crate's monitor beside the plain model.
+fn monitored(report: &mut Report, plan: &Plan) {
+    for (frames, sequences) in MACHINES.into_iter().zip(plan.monitored) {
+        let extent = machines::random::Extent { frames, sequences, length: 60 };
+        report.run(&format!("the crate's monitor at {frames}"), || machines::monitored::run(extent));
     }
 }
 

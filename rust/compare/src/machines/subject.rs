@@ -1,4 +1,4 @@
-//! The functions that are compared: those of the proved archives, and the rival's under the same names.
+//! The functions that are compared: those of the proved archive, and the rival's under the same names.
 use super::request::{Region, Request, Which};
 
 /// Each function answers 0 or the number of a reason.

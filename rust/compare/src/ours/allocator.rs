@@ -1,19 +1,11 @@
 //! The proved shared allocator, through its exported functions.
 use super::{reason, UNWRITTEN};
 use crate::shared::request::{Answer, Look, Refusal, Request};
+use replayframes::ffi;
 
 extern "C" {
     fn rf_allocator_fid(base: usize, addr: usize, frame: *mut usize) -> u32;
     fn rf_allocator_paddr(base: usize, k: usize, addr: *mut usize) -> u32;
-    fn rf_allocator_owner(
-        tree: *const u16,
-        words: usize,
-        owners: *const u8,
-        bytes: usize,
-        base: usize,
-        k: usize,
-        owner: *mut u8,
-    ) -> u32;
     fn rf_allocator_owned_count(
         tree: *const u16,
         words: usize,
@@ -138,10 +130,7 @@ pub fn paddr(base: usize, k: usize) -> Answer {
 /// What frame k is: 0 to 63 for the client that owns it, 64 if it is free, and 65 if it is reserved.
 pub fn owner(tree: &[u16], owners: &[u8], base: usize, k: usize) -> Answer {
     let mut owner = u8::MAX;
-    // SAFETY: each pointer and length are those of one slice, which is only read; the other pointer is a local's.
-    let code = unsafe {
-        rf_allocator_owner(tree.as_ptr(), tree.len(), owners.as_ptr(), owners.len(), base, k, &mut owner)
-    };
+    let code = ffi::rf_allocator_owner(tree, owners, base, k, &mut owner);
     answer(code, if owner == u8::MAX { UNWRITTEN } else { usize::from(owner) })
 }
 

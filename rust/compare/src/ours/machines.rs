@@ -1,173 +1,7 @@
 //! The proved machines, their regions and their frames, through their exported functions.
 use crate::machines::request::Region;
-use crate::machines::subject::Machines;
-
-extern "C" {
-    fn rf_start(
-        bytes: *const u8,
-        len: usize,
-        table: *mut u64,
-        entries: usize,
-        zones: *mut u64,
-        slots: usize,
-        tree: *mut u16,
-        nodes: usize,
-        owners: *mut u8,
-        frames: usize,
-        words: *mut u64,
-        contents: usize,
-    ) -> u32;
-    fn rf_add_zone(table: *const u64, entries: usize, zones: *mut u64, slots: usize, number: u64) -> u32;
-    fn rf_remove_zone(
-        table: *const u64,
-        entries: usize,
-        zones: *mut u64,
-        slots: usize,
-        tree: *const u16,
-        nodes: usize,
-        owners: *const u8,
-        frames: usize,
-        number: u64,
-    ) -> u32;
-    fn rf_remove_zone_whole(
-        table: *const u64,
-        entries: usize,
-        zones: *mut u64,
-        slots: usize,
-        tree: *mut u16,
-        nodes: usize,
-        owners: *mut u8,
-        frames: usize,
-        words: *mut u64,
-        contents: usize,
-        number: u64,
-    ) -> u32;
-    fn rf_insert_region(
-        table: *const u64,
-        entries: usize,
-        zones: *mut u64,
-        slots: usize,
-        number: u64,
-        guest: u64,
-        host: u64,
-        pages: u64,
-        kind: u64,
-    ) -> u32;
-    fn rf_remove_region(
-        table: *const u64,
-        entries: usize,
-        zones: *mut u64,
-        slots: usize,
-        number: u64,
-        guest: u64,
-        host: u64,
-        pages: u64,
-        kind: u64,
-    ) -> u32;
-    fn rf_insert_iommu_region(
-        table: *const u64,
-        entries: usize,
-        zones: *mut u64,
-        slots: usize,
-        number: u64,
-        guest: u64,
-        host: u64,
-        pages: u64,
-        kind: u64,
-    ) -> u32;
-    fn rf_remove_iommu_region(
-        table: *const u64,
-        entries: usize,
-        zones: *mut u64,
-        slots: usize,
-        number: u64,
-        guest: u64,
-        host: u64,
-        pages: u64,
-        kind: u64,
-    ) -> u32;
-    fn rf_translate(
-        table: *const u64,
-        entries: usize,
-        zones: *const u64,
-        slots: usize,
-        number: u64,
-        which: u64,
-        addr: u64,
-        host: *mut u64,
-    ) -> u32;
-    fn rf_alloc(
-        table: *const u64,
-        entries: usize,
-        zones: *const u64,
-        slots: usize,
-        tree: *mut u16,
-        nodes: usize,
-        owners: *mut u8,
-        frames: usize,
-        words: *const u64,
-        contents: usize,
-        number: u64,
-        addr: *mut u64,
-    ) -> u32;
-    fn rf_alloc_contiguous(
-        table: *const u64,
-        entries: usize,
-        zones: *const u64,
-        slots: usize,
-        tree: *mut u16,
-        nodes: usize,
-        owners: *mut u8,
-        frames: usize,
-        words: *const u64,
-        contents: usize,
-        number: u64,
-        size: usize,
-        align_log2: usize,
-        addr: *mut u64,
-    ) -> u32;
-    fn rf_dealloc(
-        table: *const u64,
-        entries: usize,
-        zones: *const u64,
-        slots: usize,
-        tree: *mut u16,
-        nodes: usize,
-        owners: *mut u8,
-        frames: usize,
-        words: *mut u64,
-        contents: usize,
-        number: u64,
-        addr: usize,
-    ) -> u32;
-    fn rf_dealloc_contiguous(
-        table: *const u64,
-        entries: usize,
-        zones: *const u64,
-        slots: usize,
-        tree: *mut u16,
-        nodes: usize,
-        owners: *mut u8,
-        frames: usize,
-        words: *mut u64,
-        contents: usize,
-        number: u64,
-        addr: usize,
-        count: usize,
-    ) -> u32;
-    fn rf_check(
-        table: *const u64,
-        entries: usize,
-        zones: *const u64,
-        slots: usize,
-        tree: *const u16,
-        nodes: usize,
-        owners: *const u8,
-        frames: usize,
-        words: *const u64,
-        contents: usize,
-    ) -> u32;
-}
+use crate::machines::subject::{Calls, Machines, Rooms, SpareRooms};
+use replayframes::ffi;
 
 /// The functions of the archive.
 pub struct Ours;
@@ -184,51 +18,17 @@ impl Machines for Ours {
         owners: &mut [u8],
         words: &mut [u64],
     ) -> u32 {
-        let (len, entries, slots, nodes, frames, contents) =
-            (bytes.len(), table.len(), zones.len(), tree.len(), owners.len(), words.len());
-        // SAFETY: each pointer and length are those of one slice; those that are written are lent exclusively.
-        unsafe {
-            rf_start(
-                bytes.as_ptr(),
-                len,
-                table.as_mut_ptr(),
-                entries,
-                zones.as_mut_ptr(),
-                slots,
-                tree.as_mut_ptr(),
-                nodes,
-                owners.as_mut_ptr(),
-                frames,
-                words.as_mut_ptr(),
-                contents,
-            )
-        }
+        ffi::rf_start(bytes, table, zones, tree, owners, words)
     }
 
     #[inline]
     fn add_zone(table: &[u64], zones: &mut [u64], number: u64) -> u32 {
-        let (entries, slots) = (table.len(), zones.len());
-        // SAFETY: each pointer and length are those of one slice; those that are written are lent exclusively.
-        unsafe { rf_add_zone(table.as_ptr(), entries, zones.as_mut_ptr(), slots, number) }
+        ffi::rf_add_zone(table, zones, number)
     }
 
     #[inline]
     fn remove_zone(table: &[u64], zones: &mut [u64], tree: &[u16], owners: &[u8], number: u64) -> u32 {
-        let (entries, slots, nodes, frames) = (table.len(), zones.len(), tree.len(), owners.len());
-        // SAFETY: each pointer and length are those of one slice; those that are written are lent exclusively.
-        unsafe {
-            rf_remove_zone(
-                table.as_ptr(),
-                entries,
-                zones.as_mut_ptr(),
-                slots,
-                tree.as_ptr(),
-                nodes,
-                owners.as_ptr(),
-                frames,
-                number,
-            )
-        }
+        ffi::rf_remove_zone(table, zones, tree, owners, number)
     }
 
     #[inline]
@@ -240,111 +40,36 @@ impl Machines for Ours {
         words: &mut [u64],
         number: u64,
     ) -> u32 {
-        let (entries, slots, nodes, frames, contents) =
-            (table.len(), zones.len(), tree.len(), owners.len(), words.len());
-        // SAFETY: each pointer and length are those of one slice; those that are written are lent exclusively.
-        unsafe {
-            rf_remove_zone_whole(
-                table.as_ptr(),
-                entries,
-                zones.as_mut_ptr(),
-                slots,
-                tree.as_mut_ptr(),
-                nodes,
-                owners.as_mut_ptr(),
-                frames,
-                words.as_mut_ptr(),
-                contents,
-                number,
-            )
-        }
+        ffi::rf_remove_zone_whole(table, zones, tree, owners, words, number)
     }
 
     #[inline]
     fn insert_region(table: &[u64], zones: &mut [u64], number: u64, region: Region) -> u32 {
-        let (entries, slots) = (table.len(), zones.len());
         let Region { guest, host, pages, kind } = region;
-        // SAFETY: each pointer and length are those of one slice; those that are written are lent exclusively.
-        unsafe {
-            rf_insert_region(
-                table.as_ptr(),
-                entries,
-                zones.as_mut_ptr(),
-                slots,
-                number,
-                guest,
-                host,
-                pages,
-                kind,
-            )
-        }
+        ffi::rf_insert_region(table, zones, number, guest, host, pages, kind)
     }
 
     #[inline]
     fn remove_region(table: &[u64], zones: &mut [u64], number: u64, region: Region) -> u32 {
-        let (entries, slots) = (table.len(), zones.len());
         let Region { guest, host, pages, kind } = region;
-        // SAFETY: each pointer and length are those of one slice; those that are written are lent exclusively.
-        unsafe {
-            rf_remove_region(
-                table.as_ptr(),
-                entries,
-                zones.as_mut_ptr(),
-                slots,
-                number,
-                guest,
-                host,
-                pages,
-                kind,
-            )
-        }
+        ffi::rf_remove_region(table, zones, number, guest, host, pages, kind)
     }
 
     #[inline]
     fn insert_iommu_region(table: &[u64], zones: &mut [u64], number: u64, region: Region) -> u32 {
-        let (entries, slots) = (table.len(), zones.len());
         let Region { guest, host, pages, kind } = region;
-        // SAFETY: each pointer and length are those of one slice; those that are written are lent exclusively.
-        unsafe {
-            rf_insert_iommu_region(
-                table.as_ptr(),
-                entries,
-                zones.as_mut_ptr(),
-                slots,
-                number,
-                guest,
-                host,
-                pages,
-                kind,
-            )
-        }
+        ffi::rf_insert_iommu_region(table, zones, number, guest, host, pages, kind)
     }
 
     #[inline]
     fn remove_iommu_region(table: &[u64], zones: &mut [u64], number: u64, region: Region) -> u32 {
-        let (entries, slots) = (table.len(), zones.len());
         let Region { guest, host, pages, kind } = region;
-        // SAFETY: each pointer and length are those of one slice; those that are written are lent exclusively.
-        unsafe {
-            rf_remove_iommu_region(
-                table.as_ptr(),
-                entries,
-                zones.as_mut_ptr(),
-                slots,
-                number,
-                guest,
-                host,
-                pages,
-                kind,
-            )
-        }
+        ffi::rf_remove_iommu_region(table, zones, number, guest, host, pages, kind)
     }
 
     #[inline]
     fn translate(table: &[u64], zones: &[u64], number: u64, which: u64, addr: u64, host: &mut u64) -> u32 {
-        let (entries, slots) = (table.len(), zones.len());
-        // SAFETY: each pointer and length are those of one slice, which is only read.
-        unsafe { rf_translate(table.as_ptr(), entries, zones.as_ptr(), slots, number, which, addr, host) }
+        ffi::rf_translate(table, zones, number, which, addr, host)
     }
 
     #[inline]
@@ -357,25 +82,7 @@ impl Machines for Ours {
         number: u64,
         addr: &mut u64,
     ) -> u32 {
-        let (entries, slots, nodes, frames, contents) =
-            (table.len(), zones.len(), tree.len(), owners.len(), words.len());
-        // SAFETY: each pointer and length are those of one slice; those that are written are lent exclusively.
-        unsafe {
-            rf_alloc(
-                table.as_ptr(),
-                entries,
-                zones.as_ptr(),
-                slots,
-                tree.as_mut_ptr(),
-                nodes,
-                owners.as_mut_ptr(),
-                frames,
-                words.as_ptr(),
-                contents,
-                number,
-                addr,
-            )
-        }
+        ffi::rf_alloc(table, zones, tree, owners, words, number, addr)
     }
 
     #[inline]
@@ -390,27 +97,7 @@ impl Machines for Ours {
         align_log2: usize,
         addr: &mut u64,
     ) -> u32 {
-        let (entries, slots, nodes, frames, contents) =
-            (table.len(), zones.len(), tree.len(), owners.len(), words.len());
-        // SAFETY: each pointer and length are those of one slice; those that are written are lent exclusively.
-        unsafe {
-            rf_alloc_contiguous(
-                table.as_ptr(),
-                entries,
-                zones.as_ptr(),
-                slots,
-                tree.as_mut_ptr(),
-                nodes,
-                owners.as_mut_ptr(),
-                frames,
-                words.as_ptr(),
-                contents,
-                number,
-                size,
-                align_log2,
-                addr,
-            )
-        }
+        ffi::rf_alloc_contiguous(table, zones, tree, owners, words, number, size, align_log2, addr)
     }
 
     #[inline]
@@ -423,25 +110,7 @@ impl Machines for Ours {
         number: u64,
         addr: usize,
     ) -> u32 {
-        let (entries, slots, nodes, frames, contents) =
-            (table.len(), zones.len(), tree.len(), owners.len(), words.len());
-        // SAFETY: each pointer and length are those of one slice; those that are written are lent exclusively.
-        unsafe {
-            rf_dealloc(
-                table.as_ptr(),
-                entries,
-                zones.as_ptr(),
-                slots,
-                tree.as_mut_ptr(),
-                nodes,
-                owners.as_mut_ptr(),
-                frames,
-                words.as_mut_ptr(),
-                contents,
-                number,
-                addr,
-            )
-        }
+        ffi::rf_dealloc(table, zones, tree, owners, words, number, addr)
     }
 
     #[inline]
@@ -455,46 +124,67 @@ impl Machines for Ours {
         addr: usize,
         count: usize,
     ) -> u32 {
-        let (entries, slots, nodes, frames, contents) =
-            (table.len(), zones.len(), tree.len(), owners.len(), words.len());
-        // SAFETY: each pointer and length are those of one slice; those that are written are lent exclusively.
-        unsafe {
-            rf_dealloc_contiguous(
-                table.as_ptr(),
-                entries,
-                zones.as_ptr(),
-                slots,
-                tree.as_mut_ptr(),
-                nodes,
-                owners.as_mut_ptr(),
-                frames,
-                words.as_mut_ptr(),
-                contents,
-                number,
-                addr,
-                count,
-            )
-        }
+        ffi::rf_dealloc_contiguous(table, zones, tree, owners, words, number, addr, count)
     }
 
     #[inline]
     fn check(table: &[u64], zones: &[u64], tree: &[u16], owners: &[u8], words: &[u64]) -> u32 {
-        let (entries, slots, nodes, frames, contents) =
-            (table.len(), zones.len(), tree.len(), owners.len(), words.len());
-        // SAFETY: each pointer and length are those of one slice, which is only read.
-        unsafe {
-            rf_check(
-                table.as_ptr(),
-                entries,
-                zones.as_ptr(),
-                slots,
-                tree.as_ptr(),
-                nodes,
-                owners.as_ptr(),
-                frames,
-                words.as_ptr(),
-                contents,
-            )
-        }
+        ffi::rf_check(table, zones, tree, owners, words)
+    }
+}
+
+impl Calls for Ours {
+    #[inline]
+    fn serve(
+        rooms: Rooms,
+        spare: SpareRooms,
+        number: u64,
+        bytes: &[u8],
+        answers: &mut [u64],
+        index: &mut u64,
+        address: &mut u64,
+    ) -> u32 {
+        let Rooms { table, zones, tree, owners, words } = rooms;
+        ffi::rf_serve(
+            table,
+            zones,
+            tree,
+            owners,
+            words,
+            spare.zones,
+            spare.tree,
+            spare.owners,
+            number,
+            bytes,
+            answers,
+            index,
+            address,
+        )
+    }
+
+    #[inline]
+    fn run(
+        rooms: Rooms,
+        spare: SpareRooms,
+        bytes: &[u8],
+        replies: &mut [u64],
+        answers: &mut [u64],
+        offset: &mut u64,
+    ) -> u32 {
+        let Rooms { table, zones, tree, owners, words } = rooms;
+        ffi::rf_run(
+            table,
+            zones,
+            tree,
+            owners,
+            words,
+            spare.zones,
+            spare.tree,
+            spare.owners,
+            bytes,
+            replies,
+            answers,
+            offset,
+        )
     }
 }

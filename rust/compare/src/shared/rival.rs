@@ -80,7 +80,7 @@ impl OwnedRival {
             Some(k) if count > 0 => k,
             _ => return false,
         };
-        match self.owners.get_mut(k..k + count) {
+        match self.owners.get_mut(k..k.wrapping_add(count)) {
             Some(owners) if owners.iter().all(|&owner| owner == client) => {
                 owners.fill(NOBODY);
                 self.tree.insert(k, k + count)

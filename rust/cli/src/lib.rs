@@ -1,0 +1,24 @@
+//! The command-line tool `replayframes`. Every judgement is that of the proved functions; what is here reads, prints
+//! and draws.
+pub mod answers;
+pub mod args;
+pub mod bytes_form;
+pub mod commands;
+pub mod fault;
+pub mod input;
+pub mod json;
+pub mod map;
+pub mod mend;
+pub mod number;
+pub mod output;
+pub mod plan;
+pub mod running;
+pub mod scene;
+pub mod script;
+pub mod sentence;
+pub mod show;
+pub mod summary;
+pub mod table;
+pub mod toml_form;
+pub mod verdict;
+pub mod wrap;
