@@ -96,7 +96,7 @@ GOOD = {
 }
 for label in ("one.a", "one.b", "two.a", "two.b"):
     GOOD[f"target/must-fail/open/{label}.res"] = "refused\n"
-    GOOD[f"target/must-fail/open/{label}.out"] = f"rt: must-fail open/{label}: refused, as it must be (first at x; 1125 s)\n"
+    GOOD[f"target/must-fail/open/{label}.out"] = f"rt: must-fail open/{label}: refused, as it must be (first at x; 900 s)\n"
     GOOD[f"target/must-fail/open/{label}/.log"] = (
         "/x/proofs/one/Proof.antt:1:1: error: `close` was not admitted, so this cannot be checked\n"
         "/x/proofs/one/Proof.antt:2:1: error: `returns`: `omega`: the goal does not follow from what it read\n"
@@ -180,7 +180,7 @@ BAD = [
     (verdict.rests_on_nothing, "target/log/open.out", "logic=not-proved\n", "is not proved"),
     (verdict.crates_are_quick, "target/log/inner.out", "rt: inner proved (61 s)\n", "took 61 s"),
     (verdict.crates_are_quick, "target/log/inner.out", "rt: inner NOT PROVED (exit 1, 3 s)\n", "is not proved"),
-    (verdict.edits_are_quick, "target/must-fail/open/one.a.out", "rt: must-fail open/one.a: refused (first at x; 1126 s)\n", "took 4501 s"),
+    (verdict.edits_are_quick, "target/must-fail/open/one.a.out", "rt: must-fail open/one.a: refused (first at x; 901 s)\n", "took 3601 s"),
     (verdict.refused_for_a_fact, "target/must-fail/open/one.a.res", "survived\n", "is not refused"),
     (verdict.refused_for_a_fact, LOG, "fn open::one: not proved\nlogic=not-proved\n", "nothing says what is not proved"),
 ] + [
