@@ -3,6 +3,8 @@
 // Every function takes any 64-bit numbers, those of regions that are not valid too, and asks nothing
 // of its caller. A page has 4,096 bytes. A range of pages is a set of page numbers in specs/, and what
 // the functions answer is said of that set.
+#![tactic(auto)]
+
 ghost use Rattle.std.specs.Prelude.{◌/◌, ◌≡◌};
 ghost use Rattle.base.specs.Says.{Says};
 ghost use Rattle.address.specs.Pages.{Multiple, Fits, EndSays, Contains, Share};
@@ -11,7 +13,7 @@ ghost use Rattle.address.specs.Regions.{Valid, ValiditySays, TranslateSays};
 const TOP: u64 = 18446744073709551615;
 
 // What a region is for.
-#[derive(Drop)]
+#[derive(Clone, Copy)]
 pub enum Kind {
     // Memory of one machine.
     Ordinary,
@@ -22,7 +24,7 @@ pub enum Kind {
 }
 
 // `pages` pages of guest memory from the address `guest` on, which are the host's pages from `host` on.
-#[derive(Drop)]
+#[derive(Clone, Copy)]
 pub struct Region {
     pub guest: u64,
     pub host: u64,
@@ -31,7 +33,7 @@ pub struct Region {
 }
 
 // The first condition of a valid region that a region breaks.
-#[derive(Drop)]
+#[derive(Clone, Copy)]
 pub enum Fault {
     Nothing,
     // It has no page.

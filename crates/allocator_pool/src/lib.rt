@@ -5,6 +5,8 @@
 // Every function takes any words, any bytes and any arguments. What cannot be met is refused with the
 // first reason that applies, and every word and byte is left as it was. `check` decides, from any bytes,
 // whether the memories are `Accounted`.
+#![tactic(auto)]
+
 ghost use Rattle.allocator_pool.specs.Looks.{OwnerSays, CountSays, CheckSays};
 ghost use Rattle.allocator_pool.specs.Changes.{InitSays, InsertSays, RemoveSays, ReleaseSays};
 

@@ -1,5 +1,7 @@
 // What every crate of the repository shares: the smaller and the larger of two numbers, clearing words,
 // and in specs/ the words in which the contracts speak.
+#![tactic(auto)]
+
 ghost use Rattle.std.specs.Prelude.{◌≡◌, ◌≤◌, min, max, length};
 ghost use Rattle.base.specs.Ranges.{Emptied};
 

@@ -6,6 +6,8 @@
 // and "none is free", holds where the summaries agree, as they do from `reset` on. `Corrupt` is
 // answered only where they do not agree; bitmap_looks has `check`, which alone decides whether
 // they do, and what is asked and changes nothing.
+#![tactic(auto)]
+
 ghost use Rattle.std.specs.Prelude.{◌<◌};
 ghost use Rattle.bitmap_allocator.specs.Changes.{ResetSays, AllocSays, RunSays, DeallocSays, RangeSays};
 

@@ -1,5 +1,7 @@
 // What the allocator answers, as plain numbers, and the numbers that stand in a file of answers. A
 // library for programs that replay requests; nothing here prints.
+#![tactic(auto)]
+
 ghost use Rattle.std.specs.Prelude.{◌<◌};
 
 use bitmap_looks::{Tested, Words};

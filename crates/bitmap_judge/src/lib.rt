@@ -1,5 +1,7 @@
 // Whether what a request answered and did is right, by the words before and after: for the program that
 // makes requests on any words.
+#![tactic(auto)]
+
 use bitmap_requests::{
     ALLOC, ALLOC_CONTIGUOUS, ANY, CAP, CHECK, CORRUPT, COUNT_FREE, DEALLOC, DONE, EMPTY, FRAME,
     FREE, LIE, NEXT, NO, NO_ROOM, NO_SIZE, NOT_FULL, NOT_TAKEN, NOTHING, NUMBER, OUTSIDE, PUT,

@@ -5,6 +5,8 @@
 // refused, and so is a frame that is not there. What is said of the frames holds for any words; what is
 // exact, "the lowest" and "none is free", holds where the summaries agree. `Corrupt` is answered only
 // where they do not agree; `check` alone decides whether they do.
+#![tactic(auto)]
+
 ghost use Rattle.std.specs.Prelude.{◌<◌};
 ghost use Rattle.bitmap_looks.specs.Looks.{CapSays, CountSays, AnySays, TestSays, NextSays, CheckSays, WordsSays};
 

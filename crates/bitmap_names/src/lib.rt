@@ -1,6 +1,8 @@
 // The names of the requests on a bitmap and of the answers, for the programs that test it: in lists, in the
 // order of their numbers, each with a comma behind it.
 
+#![tactic(auto)]
+
 pub const REQUESTS: [u8; 100] =
     *b"words_for,cap,count_free,any,test,next,check,reset,alloc,alloc_contiguous,dealloc,insert,remove,put,";
 

@@ -1,6 +1,8 @@
 // What the bitmap's library computes, in the plainest way, a frame at a time: for the program that tries
 // the library on any words. No memory here has more than 273 words.
 
+#![tactic(auto)]
+
 pub mod random;
 
 // How many frames the words have, or 0 if they are no full tree.

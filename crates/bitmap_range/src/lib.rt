@@ -1,6 +1,8 @@
 // Many frames at once: a stretch of bits is written a word at a time, and the summaries above it are
 // mended level by level, of which only the two words at the ends need a look. An inner crate: its
 // functions ask what their callers show.
+#![tactic(auto)]
+
 ghost use Rattle.std.specs.Prelude.{◌≡◌, ℕ, ◌+◌, ◌*◌, ◌^◌, ◌≤◌, ◌<◌, min, length, get_or};
 ghost use Rattle.bitmap_tree.specs.Writes.{Painted, Changed};
 ghost use Rattle.bitmap_range.specs.Levels.{Stored, Between, Noted, Mended};

@@ -1,6 +1,8 @@
 // Every function of bitmap_allocator behind one door, for the programs that test it: a number says which
 // request is made, and the answer is a number too: its kind, and 32 times the frame, the word or the
 // number of things that it tells, if it tells one.
+#![tactic(auto)]
+
 use bitmap_allocator::{Allocated, Freed, Ranged, RunTaken, Wiped};
 use bitmap_looks::{Checked, Counted, NextFree, SomeFree, Tested, Words};
 

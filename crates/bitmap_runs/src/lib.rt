@@ -1,6 +1,8 @@
 // The search for runs of free frames. Long runs are looked for a window at a time, from its end; the
 // starts of short ones are found a word at a time. An inner crate: its functions ask what their callers
 // show.
+#![tactic(auto)]
+
 ghost use Rattle.std.specs.Prelude.{◌≡◌, ◌+◌, ◌*◌, ◌^◌, ◌≤◌, ◌<◌, length, get_or};
 ghost use Rattle.base.specs.Search.{Since};
 ghost use Rattle.bits16.specs.Runs.{Multiples};

@@ -1,5 +1,7 @@
 // The search for one frame: the lowest free one, of all or at or above a number, by the summaries, and
 // the first one of a range by its own words. An inner crate: its functions ask what their callers show.
+#![tactic(auto)]
+
 ghost use Rattle.std.specs.Prelude.{◌≡◌, ◌+◌, ◌*◌, ◌^◌, ◌≤◌, ◌<◌, length};
 ghost use Rattle.base.specs.Search.{Stops};
 ghost use Rattle.bitmap_tree.specs.Tree.{free, Full};

@@ -1,5 +1,7 @@
 // Sequences of requests whose answers are known, replayed on a tree and compared. A library for the
 // program that prints what came of it; nothing here prints.
+#![tactic(auto)]
+
 use bitmap_allocator::Wiped;
 
 // What was read and compared so far.

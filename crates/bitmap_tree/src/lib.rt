@@ -1,6 +1,8 @@
 // A tree of sixteen children to a word, in one slice: bit i of word n speaks for node 16 n + 1 + i.
 // A node below the slice's length is a word, and its bit summarises it; the nodes from there on are
 // the frames. An inner crate: its functions ask what their callers show.
+#![tactic(auto)]
+
 ghost use Rattle.std.specs.Prelude.{◌≡◌, ◌+◌, ◌-◌, ◌*◌, ◌/◌, ◌^◌, ◌≤◌, ◌<◌, length};
 ghost use Rattle.base.specs.Ranges.{how_many};
 ghost use Rattle.base.specs.Says.{Says};

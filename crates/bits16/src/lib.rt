@@ -1,5 +1,7 @@
 // One word of sixteen bits: reading a bit, writing a stretch of them, finding the lowest that is set,
 // and counting. An inner crate: its functions ask what their callers show.
+#![tactic(auto)]
+
 ghost use Rattle.std.specs.Prelude.{◌≡◌, ◌+◌, ◌*◌, ◌^◌, ◌<◌, ◌≤◌, min};
 ghost use Rattle.base.specs.Ranges.{how_many};
 ghost use Rattle.bits16.specs.Bits.{bit, Filled, Appended, Lowest, SetSince};

@@ -1,5 +1,7 @@
 // Calls in bytes: whether a call is one request or a list and what of it is malformed, and where the calls
 // of a sequence are. An inner crate. Assumes nothing.
+#![tactic(auto)]
+
 ghost use Rattle.std.specs.Prelude.{◌≡◌, true, ◌+◌, ◌≤◌, ◌<◌, length};
 ghost use Rattle.base.specs.Says.{Says};
 ghost use Rattle.call_bytes.specs.Calls.{is_list, WellFormed, ShapeSays};

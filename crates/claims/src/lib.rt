@@ -1,6 +1,8 @@
 // What may be asked of the shared allocator, and why not: whether the memories fit, which frames an
 // allocation would give, and whether a client may give frames back. Nothing is changed here, and
 // nothing is demanded of the caller.
+#![tactic(auto)]
+
 ghost use Rattle.claims.specs.Fits.{FitSays};
 ghost use Rattle.claims.specs.Offers.{OfferSays, OfferRunSays};
 ghost use Rattle.claims.specs.Returns.{NumberSays, MayFreeSays, MayFreeRunSays, MayChangeSays};

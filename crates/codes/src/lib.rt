@@ -1,4 +1,5 @@
 // The results of the exported functions: 0 or a reason.
+#![tactic(auto)]
 
 // It is done, and the value is written.
 pub const RF_DONE: u32 = 0;

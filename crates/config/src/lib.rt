@@ -3,6 +3,8 @@
 // `check` decides bytes, and `load` writes an accepted configuration into a table in lent words, which
 // `check_table` decides. What a table holds is asked of config_table. Every function takes any bytes and any words of any length, and
 // asks nothing of its caller.
+#![tactic(auto)]
+
 ghost use Rattle.config.specs.Checking.{CheckSays};
 ghost use Rattle.config.specs.Loading.{LoadSays};
 ghost use Rattle.config.specs.Tables.{CheckTableSays};

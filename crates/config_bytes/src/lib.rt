@@ -1,4 +1,6 @@
 // The bytes of a configuration: its fields, and the walk over them from the first to the last.
+#![tactic(auto)]
+
 ghost use Rattle.std.specs.Prelude.{◌≡◌, ◌+◌, ◌*◌, ◌≤◌, ◌<◌, length, get_or};
 ghost use Rattle.base.specs.Says.{Says};
 ghost use Rattle.config_bytes.specs.Fields.{le16, le32, le64, region_at};
@@ -7,7 +9,7 @@ ghost use Rattle.config_bytes.specs.Reading.{after, region_read, regions_read, m
 use address::Region;
 
 // What reading the fields from front to back finds.
-#[derive(Drop)]
+#[derive(Clone, Copy)]
 pub enum Read {
     // Every field is whole, and every count and kind is allowed. Bytes may be left over.
     Whole,

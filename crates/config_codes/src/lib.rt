@@ -1,5 +1,7 @@
 // The answers about a configuration as numbers, for programs in other languages: a code for each reason,
 // and up to four numbers, which are its places in their order and 0 behind them.
+#![tactic(auto)]
+
 ghost use Rattle.std.specs.Prelude.{◌≡◌};
 ghost use Rattle.config_codes.specs.Codes.{fault_number, four_of, reason_code, reason_numbers};
 

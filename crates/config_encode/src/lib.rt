@@ -1,5 +1,7 @@
 // Writes the bytes of a configuration that lies in a table. The bytes s are none, so that config_view
 // reads the words t; `at` is where the words of machine m start, and `p` where its bytes are written.
+#![tactic(auto)]
+
 ghost use Rattle.std.specs.Prelude.{◌≡◌, ℕ, suc, ◌+◌, ◌*◌, ◌≤◌, ◌<◌, length};
 ghost use Rattle.config_bytes.specs.Fields.{le16, le32, le64};
 ghost use Rattle.config_view.specs.View.{viewed, place};

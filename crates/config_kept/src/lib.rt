@@ -1,5 +1,7 @@
 // Whether words are those of a table as it is written: whether each is what the configuration that they
 // mean has there. The bytes s are none, so that config_view reads the words t.
+#![tactic(auto)]
+
 ghost use Rattle.std.specs.Prelude.{◌≡◌, ℕ, ◌+◌, ◌*◌, ◌<◌, length};
 ghost use Rattle.base.specs.Says.{Says};
 ghost use Rattle.region_words.specs.Words.{HasRegion};

@@ -1,4 +1,6 @@
 // The rules on two regions: which two may not stand in one configuration, and the first such two.
+#![tactic(auto)]
+
 ghost use Rattle.std.specs.Prelude.{◌≡◌, ℕ, ◌+◌, ◌≤◌, ◌<◌, length};
 ghost use Rattle.base.specs.Says.{Says};
 ghost use Rattle.base.specs.Search.{Stops};
@@ -10,7 +12,7 @@ ghost use Rattle.config_pairs.specs.Pairs.{Holds, Small, SparesSays, ApartSays, 
 use address::{Kind, Region};
 
 // A rule on two regions.
-#[derive(Drop)]
+#[derive(Clone, Copy)]
 pub enum Rule {
     // An ordinary or device region shares no host page with another region.
     Alone,

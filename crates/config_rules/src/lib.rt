@@ -1,4 +1,6 @@
 // The rules on a configuration, tried in their order, and the first one that is broken.
+#![tactic(auto)]
+
 ghost use Rattle.std.specs.Prelude.{◌≡◌};
 ghost use Rattle.base.specs.Says.{Says};
 ghost use Rattle.address.specs.declared.Fault.{Fault};
@@ -10,7 +12,7 @@ use config_pairs::{Clash, Rule, Spot};
 use config_singles::{Bad, Each};
 
 // Why a configuration is refused. Machines and regions are named by their places, counted from 0.
-#[derive(Drop)]
+#[derive(Clone, Copy)]
 pub enum Reason {
     // The field at an offset is not whole.
     TooShort(usize),

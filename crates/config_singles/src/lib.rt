@@ -1,5 +1,7 @@
 // What is looked at machine by machine and region by region: the numbers, the rules on one region, and
 // where the allocator's region stands.
+#![tactic(auto)]
+
 ghost use Rattle.std.specs.Prelude.{◌≡◌, ℕ, ◌+◌, ◌<◌};
 ghost use Rattle.base.specs.Says.{Says};
 ghost use Rattle.base.specs.Search.{Stops};
@@ -12,7 +14,7 @@ use address::{Fault, Region};
 use config_pairs::Spot;
 
 // A rule on one region.
-#[derive(Drop)]
+#[derive(Clone, Copy)]
 pub enum Each {
     // It is valid.
     Valid,

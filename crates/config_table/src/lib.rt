@@ -3,6 +3,8 @@
 //
 // Every function takes any words of any length. Of a table as `config::load` writes it the answers are
 // those of the configuration; `config::check_table` decides whether words are one.
+#![tactic(auto)]
+
 ghost use Rattle.config_table.specs.Holding.{MachinesSays, MachineSays, NumberSays, CountSays, RegionSays, PoolSays, GivenSays};
 
 use address::Region;

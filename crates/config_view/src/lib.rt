@@ -1,6 +1,8 @@
 // A configuration where it lies: in bytes, or in the words of a table. Each function takes both slices,
 // and reads the bytes where there are any and the table otherwise, so that whatever is decided of a
 // configuration is written once. `at` is where the fields of machine m start.
+#![tactic(auto)]
+
 ghost use Rattle.std.specs.Prelude.{◌≡◌, suc, ◌+◌, ◌≤◌, ◌<◌, length};
 ghost use Rattle.config_view.specs.View.{viewed, place, InView};
 

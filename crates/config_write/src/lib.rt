@@ -1,5 +1,7 @@
 // Writes a configuration into a table: every word of it, those that nothing uses too. The configuration
 // lies in the bytes s or in the table v, as config_view reads it.
+#![tactic(auto)]
+
 ghost use Rattle.std.specs.Prelude.{◌≡◌, suc, ◌+◌, ◌*◌, ◌≤◌, ◌<◌, length};
 ghost use Rattle.config_view.specs.Table.{Table, number_in, count_in, region_in};
 ghost use Rattle.config_view.specs.View.{viewed, place, InView};

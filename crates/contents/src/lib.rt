@@ -1,5 +1,7 @@
 // What stands in the frames: 512 words of 64 bits for each frame that may become free. An inner crate:
 // its functions ask what their callers show.
+#![tactic(auto)]
+
 ghost use Rattle.std.specs.Prelude.{◌≡◌, ◌+◌, ◌*◌, ◌/◌, ◌≤◌, ◌<◌, length, get_or};
 ghost use Rattle.base.specs.Says.{Says};
 ghost use Rattle.base.specs.Search.{Stops};

@@ -1,5 +1,7 @@
 // Copying one lent memory into another of the same length. An inner crate: its functions ask what their
 // callers show.
+#![tactic(auto)]
+
 ghost use Rattle.std.specs.Prelude.{◌≡◌, length};
 
 // Copies words of 64 bits.

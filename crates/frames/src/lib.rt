@@ -6,6 +6,8 @@
 // Every function takes any words, any bytes and any arguments. What cannot be met is refused with the
 // first reason that applies, and every word and byte is left as it was. Where the memories are `Clean`,
 // every operation keeps them so; `Corrupt` is answered only where they are not.
+#![tactic(auto)]
+
 ghost use Rattle.frames.specs.Frames.{AllocSays, RunSays, DeallocSays, DeallocRunSays};
 
 use claims::{MayFree, MayFreeRun, NoFrame, NoRun, NotFreed, RunNotFreed};

@@ -6,6 +6,8 @@
 // Every function takes any words, any bytes and any arguments. What cannot be met is refused with the
 // first reason that applies, and every word and byte is left as it was. From `init` on the memories are
 // `Clean`, and every operation keeps them so; `check` decides, from any bytes, whether they are.
+#![tactic(auto)]
+
 ghost use Rattle.frames_pool.specs.Pool.{InitSays, InsertSays, RemoveSays, ReleaseSays, CheckSays};
 
 use allocator_pool::{Checked, Removed};

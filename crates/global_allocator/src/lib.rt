@@ -6,6 +6,8 @@
 // first reason that applies, and every word and byte is left as it was. What a success says of the
 // frames holds for any memories; what is exact, "the lowest" and "no room", holds where they are
 // `Accounted`, as they are from `init` on. `Corrupt` is answered only where they are not.
+#![tactic(auto)]
+
 ghost use Rattle.global_allocator.specs.Addresses.{FidSays, PaddrSays};
 ghost use Rattle.global_allocator.specs.Changes.{AllocSays, RunSays, DeallocSays, DeallocRunSays};
 

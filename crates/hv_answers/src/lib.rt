@@ -1,4 +1,6 @@
 // The allocator's reasons as answers to a machine. A reason that sound memories never give is "corrupt".
+#![tactic(auto)]
+
 ghost use Rattle.std.specs.Prelude.{◌≡◌};
 ghost use Rattle.hv_answers.specs.Answers.{of_no_frame, of_no_run, of_not_freed, of_run_not_freed};
 

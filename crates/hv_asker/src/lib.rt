@@ -1,5 +1,7 @@
 // Who asks: the machine that has a number, where its words are, and as which client of the allocator it
 // takes and gives back frames.
+#![tactic(auto)]
+
 ghost use Rattle.hv_asker.specs.Asking.{AskerSays, ClientSays};
 
 use config_table::Found;

@@ -3,6 +3,8 @@
 //
 // The function takes any words, any bytes and any request, and serves it for whatever words the frames have
 // that are all 0: to clear them changes nothing.
+#![tactic(auto)]
+
 ghost use Rattle.hv_blind.specs.Blind.{ServedBlind};
 
 use machine::{Answer, Request};

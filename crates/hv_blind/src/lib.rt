@@ -4,6 +4,8 @@
 //
 // Every function takes any words, any bytes and any arguments, and serves the request for whatever words the
 // frames have that are all 0: to clear them changes nothing.
+#![tactic(auto)]
+
 ghost use Rattle.machine.specs.declared.Request.TheVariants.{Alloc, AllocContiguous, Dealloc, DeallocContiguous};
 ghost use Rattle.hv_blind.specs.Blind.{ServedBlind};
 

@@ -1,6 +1,8 @@
 // Whether the memories are in order: the table of the configuration, the machines' words, the tree, the
 // owners and the frames' own words, from any words and bytes. `check` answers that they are sound exactly
 // if they are, and else where they are not.
+#![tactic(auto)]
+
 ghost use Rattle.std.specs.Prelude.{◌≡◌, ◌+◌, ◌≤◌, ◌<◌, length};
 ghost use Rattle.base.specs.Says.{Says};
 ghost use Rattle.base.specs.Search.{Stops};

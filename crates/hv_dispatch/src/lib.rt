@@ -2,6 +2,8 @@
 // first two of the order: the table of the configuration and the machines' words.
 //
 // Every function takes any words and any arguments, and serves the request, whatever the other memories hold.
+#![tactic(auto)]
+
 ghost use Rattle.std.specs.Prelude.{List, ℕ};
 ghost use Rattle.machine.specs.declared.Request.TheVariants.{Insert, Remove};
 ghost use Rattle.hv_state.specs.Serving.{Served, mem};

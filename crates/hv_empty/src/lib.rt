@@ -1,4 +1,6 @@
 // Whether a machine is empty: has no region in either of its sets, and no frame.
+#![tactic(auto)]
+
 ghost use Rattle.std.specs.Prelude.{◌+◌, ◌*◌, ◌≤◌, ◌<◌, length};
 ghost use Rattle.hv_empty.specs.Empty.{RegionsSay, FramesSay};
 

@@ -6,6 +6,8 @@
 // Where the memories are sound, they stay so, and the answer and what they mean afterwards are those of the
 // abstract machine's `step`: a refusal has the first reason that applies. "Corrupt" is answered only where
 // they are not.
+#![tactic(auto)]
+
 ghost use Rattle.machine.specs.declared.Request.TheVariants.{Alloc, AllocContiguous, Dealloc, DeallocContiguous};
 ghost use Rattle.hv_state.specs.Serving.{Served, mem};
 

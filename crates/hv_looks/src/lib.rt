@@ -3,6 +3,8 @@
 //
 // Every function takes any words and any arguments, and changes nothing. The answer is what the words mean
 // to the abstract machine, and "corrupt" is answered only where the words of that machine are not in order.
+#![tactic(auto)]
+
 ghost use Rattle.hv_looks.specs.Looks.{Inside, SpotSays, PlaceSays, PresenceSays, SetSizeSays, SetRegionSays};
 
 use address::Region;

@@ -7,6 +7,8 @@
 // sound, they stay so, whatever the others hold that make them sound, and the answer and what they mean
 // afterwards are those of the abstract machine's `step`: a refusal has the first reason that applies.
 // "Corrupt" is answered only where they are not.
+#![tactic(auto)]
+
 ghost use Rattle.std.specs.Prelude.{List, ℕ};
 ghost use Rattle.machine.specs.declared.Which.TheVariants.{Processors, Devices};
 ghost use Rattle.machine.specs.declared.Request.TheVariants.{Insert, Remove, Translate};

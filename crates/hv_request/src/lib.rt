@@ -6,6 +6,8 @@
 // the memories are sound, they stay so, and the answer and what they mean afterwards are those of the
 // abstract machine's `step`: a refusal has the first reason that applies. "Corrupt" is answered only where
 // they are not.
+#![tactic(auto)]
+
 ghost use Rattle.hv_state.specs.Serving.{Served, mem};
 
 use machine::{Answer, Request};

@@ -1,6 +1,8 @@
 // Whether a set of a machine is right: in order, with none but regions that the configuration gives the
 // machine, and empty where the machine is not there. An inner crate: its functions ask what their callers
 // show.
+#![tactic(auto)]
+
 ghost use Rattle.std.specs.Prelude.{◌≡◌, ◌+◌, ◌≤◌, ◌<◌, length};
 ghost use Rattle.base.specs.Says.{Says};
 ghost use Rattle.base.specs.Search.{Stops};

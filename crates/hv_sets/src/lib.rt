@@ -1,5 +1,7 @@
 // The set that a request is about: which machine asks, and where the words of its set are. And the set's
 // reasons as answers to a machine.
+#![tactic(auto)]
+
 ghost use Rattle.std.specs.Prelude.{◌≡◌};
 ghost use Rattle.hv_sets.specs.Asked.{AskedSays, of_not_inserted};
 

@@ -5,6 +5,8 @@
 // The configuration and every length are looked at first. What is not as it must be is refused with the
 // first reason that applies, and every word and byte is left. Else all of the memories are written: no
 // machine is there and every set is empty, and the frames with words are free and cleared.
+#![tactic(auto)]
+
 ghost use Rattle.config.specs.Checking.{IsRight};
 ghost use Rattle.hv_state.specs.Serving.{mem};
 ghost use Rattle.hv_start.specs.Starting.{Zeros, RoomSays, FramesSays, MayStartSays, StartSays};

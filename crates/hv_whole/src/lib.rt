@@ -5,6 +5,8 @@
 // The function takes any words, any bytes and any number, and a refusal leaves every word and byte. Where
 // the memories are sound, they stay so, and the answer and what they mean afterwards are those of the
 // abstract machine's `step`. "Corrupt" is answered only where they are not.
+#![tactic(auto)]
+
 ghost use Rattle.machine.specs.declared.Request.TheVariants.{RemoveZoneWhole};
 ghost use Rattle.hv_state.specs.Serving.{Served, mem};
 ghost use Rattle.hv_whole.specs.Freeing.{FreedSays};

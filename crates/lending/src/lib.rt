@@ -4,6 +4,8 @@
 //
 // Any numbers are taken. More machines than a configuration has, more slots than a machine has regions,
 // and more frames than there are addresses for are refused, each by its own reason.
+#![tactic(auto)]
+
 ghost use Rattle.std.specs.Prelude.{◌^◌, ◌≤◌};
 ghost use Rattle.lending.specs.Lending.{Smallest, AmountSays};
 

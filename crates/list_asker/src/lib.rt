@@ -1,4 +1,6 @@
 // Whose list it is, there or not, and whether the memories are such that a list can be attempted.
+#![tactic(auto)]
+
 ghost use Rattle.list_asker.specs.Listing.{ListerSays};
 
 use claims::Fit;

@@ -1,5 +1,7 @@
 // The frames that the requests of a list freed are cleared, once all of them were done. An inner crate: its
 // functions ask what their callers show.
+#![tactic(auto)]
+
 ghost use Rattle.std.specs.Prelude.{◌≡◌, ℕ, ◌+◌, ◌-◌, ◌*◌, ◌/◌, ◌%◌, ◌≤◌, ◌<◌, length};
 ghost use Rattle.base.specs.Choices.{within};
 ghost use Rattle.contents.specs.Contents.{Backed};

@@ -1,17 +1,19 @@
 // The abstract machine: what a state is, what a request of a machine does to it and is answered, and the
 // theorems that hold of every sequence of requests. There is no code here but the requests and answers:
 // the definitions are in specs/ and the theorems in proofs/. The crates hv_* do what `step` says, in memory.
+#![tactic(auto)]
+
 use address::Region;
 
 // Which of a machine's two sets of regions.
-#[derive(Drop)]
+#[derive(Clone, Copy)]
 pub enum Which {
     Processors,
     Devices,
 }
 
 // What a machine can ask. It acts on itself alone: who asks is no part of a request.
-#[derive(Drop)]
+#[derive(Clone, Copy)]
 pub enum Request {
     AddZone,
     RemoveZone,
@@ -26,7 +28,7 @@ pub enum Request {
 }
 
 // Why a request is refused.
-#[derive(Drop)]
+#[derive(Clone, Copy)]
 pub enum Reason {
     // No machine of the configuration has the asker's number.
     NoMachine,
@@ -61,7 +63,7 @@ pub enum Reason {
 }
 
 // What is answered.
-#[derive(Drop)]
+#[derive(Clone, Copy)]
 pub enum Answer {
     Done,
     // A host address: that of a frame, or the one that a guest address stands for.

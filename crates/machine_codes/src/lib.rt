@@ -1,5 +1,7 @@
 // The answers to a machine as numbers, for the exported functions: a code, and the host address that an
 // answer has. And a set of regions by its number. An inner crate. Assumes nothing.
+#![tactic(auto)]
+
 ghost use Rattle.std.specs.Prelude.{◌≡◌};
 ghost use Rattle.machine_codes.specs.Codes.{reason_code, answer_code, address_in, which_of};
 

@@ -3,6 +3,8 @@
 // A set lies at `at` in the words: a count, and behind it `slots` slots, of which the first as many as
 // the count hold the regions in ascending order. Every function takes any words, any place and any
 // number of slots, and reads none but the words of that set. `check` says whether it is in order.
+#![tactic(auto)]
+
 ghost use Rattle.memory_set.specs.Looks.{EmptySays, OverlapsSays, StartsSays, TranslateSays, CheckSays};
 
 use address::{Region, Translated};

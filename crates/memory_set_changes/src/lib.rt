@@ -4,6 +4,8 @@
 // the count hold the regions in ascending order. Every function takes any words, any place and any
 // number of slots, and reads and writes none but the words of that set. What is said of the regions
 // holds for any words; that a set stays in order, for a set that is. `clear` makes one.
+#![tactic(auto)]
+
 ghost use Rattle.memory_set_changes.specs.Changes.{InsertSays, TakeSays, RemoveSays, ClearSays};
 
 use address::Region;

@@ -1,6 +1,8 @@
 // Passes over all frames and their owners: the count of a client's frames, its release, the first frame
 // that is not in order, and the start from any bytes. An inner crate: its functions ask what their
 // callers show.
+#![tactic(auto)]
+
 ghost use Rattle.std.specs.Prelude.{◌≡◌, ◌*◌, ◌+◌, ◌≤◌, ◌<◌, length, get_or};
 ghost use Rattle.base.specs.Says.{Says};
 ghost use Rattle.base.specs.Search.{Stops};

@@ -1,5 +1,7 @@
 // Who owns which frame: beside the tree one byte a frame, 255 for nobody and 0 to 63 for a client. An
 // inner crate: its functions ask what their callers show.
+#![tactic(auto)]
+
 ghost use Rattle.std.specs.Prelude.{◌≡◌, ◌*◌, ◌+◌, ◌≤◌, ◌<◌, length, get_or};
 ghost use Rattle.base.specs.Says.{Says};
 ghost use Rattle.base.specs.Search.{Stops};

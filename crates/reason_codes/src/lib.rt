@@ -1,4 +1,6 @@
 // The codes of the shared allocator's reasons, for the exported functions. An inner crate.
+#![tactic(auto)]
+
 ghost use Rattle.std.specs.Prelude.{◌≡◌};
 ghost use Rattle.reason_codes.specs.Reasons.{unfit_code, no_frame_code, no_run_code, not_freed_code, run_not_freed_code, run_not_freed_at, not_changed_code, not_changed_at};
 

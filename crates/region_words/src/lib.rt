@@ -1,5 +1,7 @@
 // A region in memory: four words, which are its guest start, its host start, its pages, and its flags,
 // of which there is the kind so far, as a number. This crate alone knows these words.
+#![tactic(auto)]
+
 ghost use Rattle.std.specs.Prelude.{◌≡◌, ◌+◌, ◌≤◌, length};
 ghost use Rattle.base.specs.Says.{Says};
 ghost use Rattle.region_words.specs.Words.{kind_of, number_of, region_of, HasRegion, Put};

@@ -1,6 +1,8 @@
 // The bitmap's functions that change it, for programs in other languages: numbers, and pointers with
 // lengths. Each answers 0 or a reason, and writes its value through the last pointer, which a refusal leaves alone.
 // Nothing is demanded of the caller beyond the types.
+#![tactic(auto)]
+
 ghost use Rattle.std.specs.Prelude.{◌≡◌};
 ghost use Rattle.replayframes.specs.Bitmap.{range_code, ResetCode, AllocCode, RunCode, DeallocCode, InsertCode, RemoveCode};
 

@@ -1,6 +1,8 @@
 // The shared allocator's functions that programs in other languages link: numbers, and pointers with
 // lengths. Each answers 0 or a reason, and writes its value through the last pointer, which a refusal
 // that names no frame leaves alone. Nothing is demanded of the caller beyond the types.
+#![tactic(auto)]
+
 ghost use Rattle.replayframes_allocator.specs.Allocator.{FidCode, PaddrCode, OwnerCode, CountCode, CheckCode, InitCode, AllocCode, RunCode, DeallocCode, DeallocRunCode, InsertCode, RemoveCode, ReleaseCode};
 
 use allocator_pool::{Checked, Counted, FrameState, Inserted, Released, Removed, Started};

@@ -1,6 +1,8 @@
 // The configuration's functions that programs in other languages link: numbers, and pointers with
 // lengths. Each answers 0 or a reason; config_codes has the numbers of the reasons and of their places.
 // Nothing is demanded of the caller beyond the types.
+#![tactic(auto)]
+
 ghost use Rattle.replayframes_config.specs.Configuration.{CheckCode, LoadCode};
 
 use codes::RF_NO_TABLE;

@@ -1,6 +1,8 @@
 // The functions of the shared allocator with contents that programs in other languages link: numbers,
 // and pointers with lengths. Each answers 0 or a reason, and writes its value through the last pointer,
 // which a refusal that names no frame leaves alone. Nothing is demanded of the caller beyond the types.
+#![tactic(auto)]
+
 ghost use Rattle.replayframes_frames.specs.Frames.{InitCode, AllocCode, RunCode, DeallocCode, DeallocRunCode, InsertCode, RemoveCode, ReleaseCode, CheckCode};
 
 use codes::{

@@ -2,6 +2,8 @@
 // lengths. Each answers 0 or a reason, and writes its value through the last pointer, which a refusal leaves alone;
 // `rf_bitmap_check` writes the word that lies.
 // Nothing is demanded of the caller beyond the types.
+#![tactic(auto)]
+
 ghost use Rattle.replayframes_looks.specs.Looks.{WordsCode, CapCode, CountCode, AnyCode, TestCode, NextCode, CheckCode};
 
 use bitmap_looks::{Checked, Counted, NextFree, SomeFree, Tested, Words};

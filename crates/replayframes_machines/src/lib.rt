@@ -6,6 +6,8 @@
 // Each answers 0 or a reason, which is the first that applies where the memories are sound, and a refusal
 // leaves every word and byte, and what stands behind the last pointer. Nothing is demanded of the caller
 // beyond the types.
+#![tactic(auto)]
+
 ghost use Rattle.std.specs.Prelude.{◌≡◌};
 ghost use Rattle.machine.specs.declared.Which.TheVariants.{Processors, Devices};
 ghost use Rattle.machine.specs.declared.Request.TheVariants.{AddZone, RemoveZone, RemoveZoneWhole, Insert, Remove, Alloc, AllocContiguous, Dealloc, DeallocContiguous};

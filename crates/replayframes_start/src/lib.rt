@@ -1,6 +1,8 @@
 // The start and the check of the memories that programs in other languages link: pointers with lengths,
 // and 0 or a reason. The reasons of the configuration are those of config_codes. Nothing is demanded of
 // the caller beyond the types.
+#![tactic(auto)]
+
 ghost use Rattle.std.specs.Prelude.{◌≡◌};
 ghost use Rattle.hv_state.specs.Serving.{mem};
 ghost use Rattle.replayframes_start.specs.Start.{zones_code, frames_code, not_started_code, StartCode, fault_code, checked_code, CheckCode};

@@ -5,6 +5,8 @@
 //
 // Each answers 0 or a reason, and writes its values through the last pointers, which a refusal leaves
 // alone. Nothing is demanded of the caller beyond the types.
+#![tactic(auto)]
+
 ghost use Rattle.std.specs.Prelude.{◌≡◌};
 ghost use Rattle.replayframes_views.specs.Views.{fields, fields_of, span, MachinesCode, NumberCode, CountCode, RegionCode, PoolCode, ThereCode, SetSizeCode, SetRegionCode, sizes, LendCode};
 

@@ -1,5 +1,7 @@
 // Requests in bytes. Bytes are read as an operation and four numbers, these as a request, and the request
 // stands if its own numbers are those that were read. An interface crate: any bytes are taken. Assumes nothing.
+#![tactic(auto)]
+
 ghost use Rattle.std.specs.Prelude.{◌≡◌, ◌+◌, ◌≤◌, length};
 ghost use Rattle.base.specs.Says.{Says};
 ghost use Rattle.request_bytes.specs.Requests.{five, of_region, numbers_of, numbers_at, region_in, request_of, ReadSays};
@@ -11,7 +13,7 @@ use machine_codes::which_of;
 use region_words::{kind_of, number_of};
 
 // An operation and its four numbers.
-#[derive(Drop)]
+#[derive(Clone, Copy)]
 pub struct Numbers {
     pub op: u64,
     pub a: u64,

@@ -1,5 +1,7 @@
 // What may be asked of a set in memory, and why not: whether its words are there and its count is one, and
 // whether a region may go in. Nothing is changed here, and nothing is demanded of the caller.
+#![tactic(auto)]
+
 ghost use Rattle.std.specs.Prelude.{◌<◌};
 ghost use Rattle.base.specs.Says.{Says};
 ghost use Rattle.set_slots.specs.Slots.{Lies, UsedOk};

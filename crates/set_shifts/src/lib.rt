@@ -1,5 +1,7 @@
 // Writing the slots of a set: they move up by one to make room, down by one to close a gap, and are
 // wiped. The count is the caller's, except where a region is taken out.
+#![tactic(auto)]
+
 ghost use Rattle.std.specs.Prelude.{◌≡◌, ◌+◌, ◌≤◌, length, get_or};
 ghost use Rattle.region_words.specs.Words.{nothing, Put};
 ghost use Rattle.set_slots.specs.Slots.{Lies};

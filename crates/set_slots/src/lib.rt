@@ -1,6 +1,8 @@
 // A set of regions in memory: a count at `at`, and behind it slots of four words, of which the first as
 // many as the count hold the regions and the others nothing. Here is what reads them: whether the words
 // are there, the searches for a slot, and whether a slot is right.
+#![tactic(auto)]
+
 ghost use Rattle.std.specs.Prelude.{◌+◌, ◌*◌, ◌≤◌, ◌<◌, length};
 ghost use Rattle.base.specs.Says.{Says};
 ghost use Rattle.base.specs.Search.{Stops};

@@ -1,5 +1,7 @@
 // What the lent memories must have room for, read from a configuration where it lies: in bytes, or in the
 // words of a table. An inner crate: its functions ask what their callers show.
+#![tactic(auto)]
+
 ghost use Rattle.std.specs.Prelude.{◌≡◌, ◌≤◌};
 ghost use Rattle.base.specs.Search.{Stops};
 ghost use Rattle.config_view.specs.View.{viewed, InView};

@@ -2,6 +2,8 @@
 // configuration, one machine behind the other, and of each machine: whether it is there (0 or 1), the set
 // of its processors and the set of its devices. A set is a count and slots of four words; all sets have
 // the same number of slots, which the number of words gives.
+#![tactic(auto)]
+
 ghost use Rattle.std.specs.Prelude.{◌≡◌, ◌+◌, ◌*◌, ◌^◌, ◌≤◌, ◌<◌};
 ghost use Rattle.zones.specs.Layout.{set_at, ShapeSays, LookSays, LocateSays};
 

@@ -1,0 +1,24 @@
+-- `request` is safe and ends: the measure is how many requests are left. Assumes nothing.
+use Rattle.std.proofs.Common.{◌-◌, arith}
+use Rattle.bitmap_names.proofs.request.Goals as goal
+
+pub loop-k-init : goal.loop-k-init
+loop-k-init c = tt
+
+pub names-requires : goal.names-requires
+names-requires c = tt
+
+pub returns-then-names : goal.returns-then-names
+returns-then-names c = tt
+
+pub overflow_add-k : goal.overflow_add-k
+overflow_add-k c = omega arith
+
+pub loop-k-smaller : goal.loop-k-smaller
+loop-k-smaller c = omega arith
+
+pub loop-k-preserved : goal.loop-k-preserved
+loop-k-preserved c = tt
+
+pub returns : goal.returns
+returns c = tt

@@ -1,0 +1,58 @@
+-- `bitmap_tree::climb` meets its contract. The invariant of its loop is `Climbing`; the measure is the node, since a parent is before its child. Assumes nothing.
+use mathlib.Core.Path.{sym, ◌∙◌}
+use Prim.Native.Nat.{◌-◌, ◌/◌}
+use native.Mathlib.Omega.{arith}
+use lib.ListN.{length-set}
+use Rattle.bitmap_tree.proofs.Writes.{painted_one, summary_back}
+use Rattle.bitmap_tree.proofs.Ascent.{climb_start, climb_step, climb_stop, climb_done}
+use Rattle.bitmap_tree.proofs.climb.Goals as goal
+
+pub loop-n-init : goal.loop-n-init
+loop-n-init c = climb_start _ _ _ c.requires.3
+
+pub overflow_sub-p : goal.overflow_sub-p
+overflow_sub-p c = omega arith
+
+pub offset_bounds-tree-p : goal.offset_bounds-tree-p
+offset_bounds-tree-p c = let l = c.loop-n.invariant.long in let t = c.loop-n.invariant.top in omega arith
+
+pub bounds-tree-p : goal.bounds-tree-p
+bounds-tree-p c = let l = c.loop-n.invariant.long in let t = c.loop-n.invariant.top in omega arith
+
+pub put-new-requires : goal.put-new-requires
+put-new-requires c = let w = c.loop-n.invariant.two in omega arith
+
+pub offset_bounds-tree-p-in-loop-n : goal.offset_bounds-tree-p-in-loop-n
+offset_bounds-tree-p-in-loop-n c = let l = c.loop-n.invariant.long in let t = c.loop-n.invariant.top in omega arith
+
+pub bounds-tree-p-in-loop-n : goal.bounds-tree-p-in-loop-n
+bounds-tree-p-in-loop-n c = let l = c.loop-n.invariant.long in let t = c.loop-n.invariant.top in omega arith
+
+pub shape_of-tree-then-was-is : goal.shape_of-tree-then-was-is
+shape_of-tree-then-was-is c = let l = c.loop-n.invariant.long in let s = length-set c.loop-n.tree ((c.loop-n.n - 1) / 16) c.put-new.result in omega arith
+
+pub returns-then-was-is : goal.returns-then-was-is
+returns-then-was-is c =
+    let l = c.loop-n in
+    let o = l.invariant.top in
+    let g = l.invariant.long in
+    climb_stop _ l.tree _ _ _ l.n l.u c.requires.1 c.loop-n-test.true l.invariant
+    (painted_one l.tree l.n l.u c.put-new.result c.loop-n-test.true (omega arith) l.invariant.two c.put-new.ensures)
+    (sym c.some-was.ensures ∙ c.if-was-is.true ∙ summary_back l.tree ((l.n - 1) / 16) c.put-new.result c.some-is.result (omega arith) c.some-is.ensures)
+
+pub loop-n-preserved : goal.loop-n-preserved
+loop-n-preserved c =
+    let l = c.loop-n in
+    let o = l.invariant.top in
+    let g = l.invariant.long in
+    climb_step _ l.tree _ _ _ l.n l.u c.requires.1 c.loop-n-test.true l.invariant
+    (painted_one l.tree l.n l.u c.put-new.result c.loop-n-test.true (omega arith) l.invariant.two c.put-new.ensures)
+    _ (summary_back l.tree ((l.n - 1) / 16) c.put-new.result c.some-is.result (omega arith) c.some-is.ensures)
+
+pub shape_of-tree : goal.shape_of-tree
+shape_of-tree c = c.loop-n.invariant.long
+
+pub returns : goal.returns
+returns c =
+    let l = c.loop-n in
+    climb_done _ _ _ _ l.n l.u l.invariant (let p = c.requires in omega arith) (λ r q. absurd (omega arith))

@@ -1,0 +1,11 @@
+-- What the loop of `copies::copy_tree` keeps, and why it ends. Assumes nothing.
+use Prim.Native.Nat.{◌-◌}
+use lib.ListN.{length}
+use Rattle.copies.specs.Copying.{CopiedTo}
+use Rattle.copies.proofs.copy_tree.Given as goal
+
+abbrev pub invariant-loop-i : goal.invariant-loop-i
+invariant-loop-i l = CopiedTo l.from l.to l.i
+
+abbrev pub decreases-loop-i : goal.decreases-loop-i
+decreases-loop-i l = length l.from - l.i

@@ -1,0 +1,16 @@
+-- `hv_answers::of_no_frame` meets its contract. Assumes nothing.
+use mathlib.Core.Path.{sym, ap}
+use Rattle.hv_answers.specs.Answers.{of_no_frame}
+use Rattle.hv_answers.proofs.of_no_frame.Goals as goal
+
+pub returns-in-Unfit : goal.returns-in-Unfit
+returns-in-Unfit c = ap of_no_frame (sym c.in-Unfit.is)
+
+pub returns-in-NoClient : goal.returns-in-NoClient
+returns-in-NoClient c = ap of_no_frame (sym c.in-NoClient.is)
+
+pub returns-in-NoRoom : goal.returns-in-NoRoom
+returns-in-NoRoom c = ap of_no_frame (sym c.in-NoRoom.is)
+
+pub returns-in-Corrupt : goal.returns-in-Corrupt
+returns-in-Corrupt c = ap of_no_frame (sym c.in-Corrupt.is)

@@ -1,0 +1,11 @@
+-- `replayframes_looks::rf_bitmap_cap` meets its contract. Assumes nothing.
+use Rattle.bitmap_looks.specs.Looks.{CapSays}
+use Rattle.replayframes_looks.specs.Looks.{counted_code, counted_value}
+use Rattle.codes.proofs.Codes.{valued}
+use Rattle.replayframes_looks.proofs.rf_bitmap_cap.Goals as goal
+
+pub returns-in-Frames : goal.returns-in-Frames
+returns-in-Frames c = valued (CapSays _) counted_code counted_value _ c.cap.ensures c.in-Frames.is
+
+pub returns-in-NotFull : goal.returns-in-NotFull
+returns-in-NotFull c = valued (CapSays _) counted_code counted_value _ c.cap.ensures c.in-NotFull.is
