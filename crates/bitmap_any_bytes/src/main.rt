@@ -2,9 +2,14 @@
 // pseudo-random numbers. Every answer is held to what `test` says of every frame before and after, a refusal
 // to a copy of the words, and where the summaries agree the answer is held to a plain recomputation.
 // Prints how often each answer was given, and how many were inconsistent.
+
+#![tactic(auto)]
+
 mod tally;
 
 use bitmap_plain::random;
+use std::io;
+use std::io::{BufWriter, Write};
 
 // How many frames or words a request can name.
 fn reach(tree: &[u16], request: usize) -> usize {
@@ -50,12 +55,10 @@ fn prepare(tree: &mut [u16], i: u64) {
 // Makes so many requests on the words that there are.
 fn turns(tree: &mut [u16], old: &mut [u16], many: u64, counts: &mut [u64; 32]) {
     let mut s: u64 = 1;
-    let mut i: u64 = 0;
-    while i < many {
+    for i in 0..many {
         prepare(tree, i);
         s = random::step(s);
         tally::note(counts, request(tree, old, s));
-        i += 1;
     }
 }
 
@@ -87,11 +90,13 @@ fn words_18(counts: &mut [u64; 32]) {
     turns(&mut tree, &mut old, 10000, counts);
 }
 
-fn main() {
+fn main(rt: HostRuntime) -> io::Result<()> {
     let mut counts = [0u64; 32];
     words_1(&mut counts);
     words_17(&mut counts);
     words_273(&mut counts);
     words_18(&mut counts);
-    tally::print(&counts);
+    let mut out = BufWriter::new(rt.alloc(), io::writer(&rt))?;
+    tally::print(&mut out, &counts)?;
+    out.flush()
 }

@@ -1,4 +1,6 @@
 // How often each kind of answer was given, by its number, and at the last place how often one was wrong.
+use std::io;
+use std::io::Write;
 
 // The place of what was wrong.
 pub const WRONG: usize = 31;
@@ -10,29 +12,26 @@ pub fn note(tally: &mut [u64; 32], i: usize) {
 }
 
 // Prints the name with the number k.
-fn name(list: &[u8], k: usize) {
+fn name(out: &mut impl Write, list: &[u8], k: usize) -> io::Result<()> {
     let at = bitmap_names::start(list, k);
     let end = bitmap_names::find(list, at, b',');
     if at <= end && end <= list.len() {
-        io::write_all(1, &list[at..end]);
+        out.write_all(&list[at..end])?;
     }
+    Ok(())
 }
 
 // Prints a line: how often a kind of answer was given.
-fn line(many: u64, kind: usize) {
-    io::print_decimal(1, many);
-    io::write_all(1, b" ");
-    name(&bitmap_names::ANSWERS, kind);
-    io::write_all(1, b"\n");
+fn line(out: &mut impl Write, many: u64, kind: usize) -> io::Result<()> {
+    write!(out, "{many} ")?;
+    name(out, &bitmap_names::ANSWERS, kind)?;
+    out.write_all(b"\n")
 }
 
 // Prints a line for each kind of answer, and for what was wrong.
-pub fn print(tally: &[u64; 32]) {
-    let mut k: usize = 0;
-    while k < 18 {
-        line(tally[k], k);
-        k += 1;
+pub fn print(out: &mut impl Write, tally: &[u64; 32]) -> io::Result<()> {
+    for k in 0..18 {
+        line(out, tally[k], k)?;
     }
-    io::print_decimal(1, tally[WRONG]);
-    io::write_all(1, b" inconsistent\n");
+    writeln!(out, "{} inconsistent", tally[WRONG])
 }

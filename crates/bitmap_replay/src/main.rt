@@ -7,54 +7,54 @@
 // Bytes are counted from 0. The byte at which a file is damaged is
 // the first of what cannot be read: the file ends within it, there is no such kind of request, or
 // the number of frames is neither 16 nor 256. Bytes behind the last sequence are damage too.
-use libc::STDOUT_FILENO;
+
+#![tactic(auto)]
+
+use std::fs::File;
+use std::io;
+use std::io::{BufWriter, Read, Write};
 
 // Reads the file, of at most 65,536 bytes, and replays it.
-fn main() {
-    let path = b"answers";
-    let file = os::open_read(path);
-    if file < 0 {
-        os::fail(path);
-        return;
-    }
-    let mut buffer = [0u8; 65536];
-    let n = io::read_full(file, &mut buffer);
-    libc::close(file);
-    replay(&buffer[..n]);
+fn main(rt: HostRuntime) -> io::Result<()> {
+    let mut bytes = Vec::new(rt.alloc());
+    File::open(&rt, "answers")?
+        .take(65536)
+        .read_to_end(&mut bytes)?;
+    let mut out = BufWriter::new(rt.alloc(), io::writer(&rt))?;
+    replay(&mut out, bytes.as_slice())?;
+    out.flush()
 }
 
 // Replays all sequences and writes what came of them.
-fn replay(bytes: &[u8]) {
+fn replay(out: &mut impl Write, bytes: &[u8]) -> io::Result<()> {
     if bytes.len() < 4 {
-        say_damaged(0);
-        return;
+        return say_damaged(out, 0);
     }
     let count = bitmap_answers::u32_at(bytes, 0);
     let end = bitmap_sequences::replay(bytes, count);
     if end.damaged {
-        say_damaged(end.at);
-        return;
+        return say_damaged(out, end.at);
     }
-    tell(b"", count);
-    tell(b" sequences, ", end.requests);
-    tell(b" requests: ", end.answers);
-    tell(b" answers differ, ", end.frames);
-    say(b" frames differ\n");
+    tell(out, b"", count)?;
+    tell(out, b" sequences, ", end.requests)?;
+    tell(out, b" requests: ", end.answers)?;
+    tell(out, b" answers differ, ", end.frames)?;
+    say(out, b" frames differ\n")
 }
 
 // Writes a line on a file that is damaged at a byte.
-fn say_damaged(at: usize) {
-    tell(b"the file is damaged at byte ", at);
-    say(b"\n");
+fn say_damaged(out: &mut impl Write, at: usize) -> io::Result<()> {
+    tell(out, b"the file is damaged at byte ", at)?;
+    say(out, b"\n")
 }
 
 // Writes words and a number.
-fn tell(text: &[u8], number: usize) {
-    say(text);
-    io::print_decimal(STDOUT_FILENO, number as u64);
+fn tell(out: &mut impl Write, text: &[u8], number: usize) -> io::Result<()> {
+    say(out, text)?;
+    write!(out, "{number}")
 }
 
 // Writes words.
-fn say(text: &[u8]) {
-    io::write_all(STDOUT_FILENO, text);
+fn say(out: &mut impl Write, text: &[u8]) -> io::Result<()> {
+    out.write_all(text)
 }

@@ -1,5 +1,7 @@
 // A call of a machine, one request or a list of them, in bytes. An inner crate: its functions ask what their
 // callers show.
+#![tactic(auto)]
+
 ghost use Rattle.std.specs.Prelude.{◌+◌, ◌*◌, ◌/◌, ◌≤◌, length};
 ghost use Rattle.base.specs.Says.{Says};
 ghost use Rattle.base.specs.Ranges.{Only};
@@ -12,7 +14,7 @@ use machine::Answer;
 use request_bytes::Read;
 
 // What is replied to a call.
-#[derive(Drop)]
+#[derive(Clone, Copy)]
 pub enum Replied {
     // What one request is answered.
     Answered(Answer),

@@ -1,5 +1,7 @@
 // A list of requests of one machine, all done or none: they are attempted, and once all are done the frames
 // that they freed are cleared. An inner crate: its functions ask what their callers show.
+#![tactic(auto)]
+
 ghost use Rattle.std.specs.Prelude.{◌≡◌, ℕ, ◌+◌, ◌*◌, ◌≤◌, ◌<◌, length};
 ghost use Rattle.base.specs.Ranges.{Only};
 ghost use Rattle.request_bytes.specs.Requests.{request_at, Means};

@@ -6,13 +6,15 @@
 // The function takes any words, any bytes and any number. What is not done leaves every word and byte of the
 // five memories; the spare memory and the answers' words may change. Where the memories are sound, they stay
 // so, and the reply and what they mean afterwards are those of the abstract machine's `call`.
+#![tactic(auto)]
+
 ghost use Rattle.hv_state.specs.Serving.{mem};
 ghost use Rattle.hv_serve.specs.Called.{CalledSays};
 
 use hv_calls::Replied;
 
 // What is replied to a call.
-#[derive(Drop)]
+#[derive(Clone, Copy)]
 pub enum Called {
     Replied(Replied),
     // There are fewer than two words for the answers to each request that the bytes have room for.

@@ -1,5 +1,7 @@
 // The requests of a list are attempted one by one, without the frames' contents, up to the first that is
 // refused. An inner crate: its functions ask what their callers show.
+#![tactic(auto)]
+
 ghost use Rattle.std.specs.Prelude.{◌≡◌, ℕ, ◌+◌, ◌*◌, ◌≤◌, ◌<◌, length};
 ghost use Rattle.base.specs.Ranges.{Only};
 ghost use Rattle.machine.specs.Lists.{is_done};
@@ -11,7 +13,7 @@ use machine::Answer;
 use request_bytes::Read;
 
 // What came of attempting the requests of a list.
-#[derive(Drop)]
+#[derive(Clone, Copy)]
 pub enum Tried {
     // All were done.
     Through,

@@ -1,6 +1,8 @@
 // The requests of a list are attempted, and where one is refused everything is as it was: the machines' words,
 // the tree and the owners are copied into spare memory first, and copied back then. An inner crate: its
 // functions ask what their callers show.
+#![tactic(auto)]
+
 ghost use Rattle.std.specs.Prelude.{◌≡◌, ℕ, ◌+◌, ◌*◌, ◌≤◌, ◌<◌, length};
 ghost use Rattle.base.specs.Ranges.{Only};
 ghost use Rattle.request_bytes.specs.Requests.{request_at, Means};

@@ -2,82 +2,84 @@
 use address::{End, Fault, Translated};
 use memory_set_changes::{Inserted, TakenOut};
 use set_claims::NotInserted;
+use std::io;
+use std::io::Write;
 
 // Prints a text.
-pub fn say(text: &[u8]) {
-    io::write_all(1, text);
+pub fn say(out: &mut impl Write, text: &[u8]) -> io::Result<()> {
+    out.write_all(text)
 }
 
 // Prints a number, and ends the line.
-fn number(n: u64) {
-    io::print_decimal(1, n);
-    say(b"\n");
+fn number(out: &mut impl Write, n: u64) -> io::Result<()> {
+    write!(out, "{n}")?;
+    say(out, b"\n")
 }
 
 // Prints a yes or no, and ends the line.
-pub fn yes(is_so: bool) {
+pub fn yes(out: &mut impl Write, is_so: bool) -> io::Result<()> {
     if is_so {
-        say(b"yes\n");
+        say(out, b"yes\n")
     } else {
-        say(b"no\n");
+        say(out, b"no\n")
     }
 }
 
 // Prints an end, and ends the line.
-pub fn end(e: End) {
+pub fn end(out: &mut impl Write, e: End) -> io::Result<()> {
     match e {
-        End::At(addr) => number(addr),
-        End::Beyond => say(b"beyond\n"),
+        End::At(addr) => number(out, addr),
+        End::Beyond => say(out, b"beyond\n"),
     }
 }
 
 // Prints a host address, and ends the line.
-pub fn translated(t: Translated) {
+pub fn translated(out: &mut impl Write, t: Translated) -> io::Result<()> {
     match t {
-        Translated::Host(addr) => number(addr),
-        Translated::Outside => say(b"outside\n"),
-        Translated::Beyond => say(b"beyond\n"),
+        Translated::Host(addr) => number(out, addr),
+        Translated::Outside => say(out, b"outside\n"),
+        Translated::Beyond => say(out, b"beyond\n"),
     }
 }
 
 // Prints which condition of a valid region is broken.
-fn fault(f: Fault) {
+fn fault(out: &mut impl Write, f: Fault) -> io::Result<()> {
     match f {
-        Fault::Nothing => say(b"nothing"),
-        Fault::NoPage => say(b"no page"),
-        Fault::GuestStart => say(b"guest start"),
-        Fault::HostStart => say(b"host start"),
-        Fault::GuestEnd => say(b"guest end"),
-        Fault::HostEnd => say(b"host end"),
+        Fault::Nothing => say(out, b"nothing"),
+        Fault::NoPage => say(out, b"no page"),
+        Fault::GuestStart => say(out, b"guest start"),
+        Fault::HostStart => say(out, b"host start"),
+        Fault::GuestEnd => say(out, b"guest end"),
+        Fault::HostEnd => say(out, b"host end"),
     }
 }
 
 // Prints why a region does not go in.
-fn not_inserted(why: NotInserted) {
+fn not_inserted(out: &mut impl Write, why: NotInserted) -> io::Result<()> {
     match why {
-        NotInserted::Bad(_) => say(b"no set"),
+        NotInserted::Bad(_) => say(out, b"no set"),
         NotInserted::NotValid(f) => {
-            say(b"not valid, ");
-            fault(f);
+            say(out, b"not valid, ")?;
+            fault(out, f)
         }
-        NotInserted::Overlap => say(b"overlap"),
-        NotInserted::NoRoom => say(b"no room"),
+        NotInserted::Overlap => say(out, b"overlap"),
+        NotInserted::NoRoom => say(out, b"no room"),
     }
 }
 
 // Prints whether a region went in.
-pub fn inserted(a: Inserted) {
+pub fn inserted(out: &mut impl Write, a: Inserted) -> io::Result<()> {
     match a {
-        Inserted::Done => say(b"done"),
-        Inserted::No(why) => not_inserted(why),
+        Inserted::Done => say(out, b"done"),
+        Inserted::No(why) => not_inserted(out, why),
     }
 }
 
 // Prints whether a region went out.
-pub fn taken_out(a: TakenOut) {
+pub fn taken_out(out: &mut impl Write, a: TakenOut) -> io::Result<()> {
     match a {
-        TakenOut::Was(_) => say(b"done"),
-        TakenOut::NotThere => say(b"not there"),
-        TakenOut::Bad(_) => say(b"no set"),
+        TakenOut::Was(_) => say(out, b"done"),
+        TakenOut::NotThere => say(out, b"not there"),
+        TakenOut::Bad(_) => say(out, b"no set"),
     }
 }

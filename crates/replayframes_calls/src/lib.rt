@@ -6,6 +6,8 @@
 // It answers 0 or a reason. What is not done leaves every word and byte of the five memories; the spare memory
 // may change, and of the words for answers those of a list's members. Nothing is demanded of the caller beyond
 // the types.
+#![tactic(auto)]
+
 ghost use Rattle.std.specs.Prelude.{◌≡◌};
 ghost use Rattle.hv_state.specs.Serving.{mem};
 ghost use Rattle.replayframes_calls.specs.Calls.{called_code, called_index, called_address, ServeCode};

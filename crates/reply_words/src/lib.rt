@@ -1,5 +1,7 @@
 // A reply to a call as three words: a code, which request it is of, and an address. An inner crate: its
 // functions ask what their callers show.
+#![tactic(auto)]
+
 ghost use Rattle.std.specs.Prelude.{◌≡◌, ◌+◌, ◌≤◌, length};
 ghost use Rattle.base.specs.Ranges.{Only};
 ghost use Rattle.reply_words.specs.Replies.{code_in, index_in, place_in, Wrote};

@@ -1,4 +1,6 @@
 // One call of a sequence. An inner crate: its function asks what its caller shows.
+#![tactic(auto)]
+
 ghost use Rattle.std.specs.Prelude.{◌≡◌, ◌+◌, ◌*◌, ◌/◌, ◌≤◌, length};
 ghost use Rattle.config_bytes.specs.Fields.{le64};
 ghost use Rattle.call_bytes.specs.Framing.{behind};
