@@ -7,13 +7,15 @@
 // is done; a malformed request in a sequence is replied to so, and changes nothing. The spare memory may
 // change in any case, of the words for replies and answers none but three for each call and those of lists'
 // members. Where the memories are sound, they stay so, and mean what the calls make of what they meant.
+#![tactic(auto)]
+
 ghost use Rattle.hv_state.specs.Serving.{mem};
 ghost use Rattle.hv_run.specs.Sequence.{RanSays};
 
 use call_bytes::Framing;
 
 // What came of a sequence of calls.
-#[derive(Drop)]
+#[derive(Clone, Copy)]
 pub enum Ran {
     // So many calls were served.
     Done(usize),

@@ -6,6 +6,8 @@
 // It answers 0 or a reason. A sequence that is not begun leaves every word and byte of the five memories; the
 // spare memory may change, and of the words for replies and answers three for each call and those of lists'
 // members. Nothing is demanded of the caller beyond the types.
+#![tactic(auto)]
+
 ghost use Rattle.std.specs.Prelude.{◌≡◌};
 ghost use Rattle.hv_state.specs.Serving.{mem};
 ghost use Rattle.replayframes_sequences.specs.Sequences.{ran_code, ran_offset, RunCode};

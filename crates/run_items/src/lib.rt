@@ -1,4 +1,6 @@
 // The calls of a sequence, one after the other. An inner crate: its function asks what its caller shows.
+#![tactic(auto)]
+
 ghost use Rattle.std.specs.Prelude.{List, ◌*◌, ◌/◌, ◌≤◌, length};
 ghost use Rattle.call_bytes.specs.Framing.{Item, Framed};
 ghost use Rattle.hv_state.specs.Serving.{mem};
