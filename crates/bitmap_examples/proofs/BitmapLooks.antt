@@ -1,6 +1,5 @@
 -- An example of every answer of the functions that only look at a tree. Assumes nothing.
 use mathlib.Core.Path.{refl}
-use Prim.Native.Nat.{◌≤◌, ◌<◌}
 use native.Mathlib.Omega.{arith}
 use lib.Dec.{lit<, lit≤}
 use Rattle.base.specs.Ranges as ranges

@@ -1,6 +1,5 @@
 -- An example of every answer to how much is to be lent. Assumes nothing.
 use mathlib.Core.Path.{refl}
-use Prim.Native.Nat.{◌≤◌, ◌<◌}
 use lib.Dec.{lit<, lit≤}
 use Rattle.bitmap_tree.proofs.Fullness.{pow_le}
 use Rattle.lending.specs.declared.Amount.{Amount}

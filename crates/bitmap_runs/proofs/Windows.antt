@@ -11,7 +11,7 @@ use lib.Pow.{pow_pos, pow_mono, shl_exact}
 use Rattle.base.specs.Search.{Since}
 use Rattle.bits16.specs.Bits.{bit, SetSince}
 use Rattle.bits16.proofs.Lengths.{full_bit}
-use Rattle.bitmap_tree.specs.Tree.{node_bit, free, cap, Full, Agree}
+use Rattle.bitmap_tree.specs.Tree.{node_bit, cap, Full, Agree}
 use Rattle.bitmap_tree.proofs.Nodes.{bit_in}
 use Rattle.bitmap_tree.proofs.Fullness.{pow_le}
 use Rattle.bitmap_search.specs.Found.{IsNext, NoneFrom}

@@ -5,9 +5,9 @@ use Prim.Native.Nat.{ℕ, zero, suc, ◌+◌, ◌-◌, ◌*◌, ◌/◌, ◌%◌
 use native.Mathlib.Decide.{dec_le}
 use native.Mathlib.Omega.{arith}
 use lib.ListN.{length, get_or}
-use Rattle.bits16.specs.Bits.{bit, Lowest}
+use Rattle.bits16.specs.Bits.{Lowest}
 use Rattle.bits16.proofs.Laws.{lowest_set}
-use Rattle.bitmap_tree.specs.Tree.{node_bit, free, Full, Agree}
+use Rattle.bitmap_tree.specs.Tree.{node_bit, Full, Agree}
 use Rattle.bitmap_tree.proofs.Nodes.{child_bit, bit_in, bit_clear}
 use Rattle.bitmap_tree.proofs.Fullness.{full_bound, level_next}
 use Rattle.bitmap_tree.proofs.Summaries.{root_none, set_some}

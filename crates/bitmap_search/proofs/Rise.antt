@@ -7,8 +7,8 @@ use native.Mathlib.Decide.{dec_le}
 use native.Mathlib.Numerals.{add-one}
 use native.Mathlib.Omega.{arith}
 use lib.ListN.{length, get_or}
-use Rattle.bits16.specs.Bits.{bit, Lowest}
-use Rattle.bitmap_tree.specs.Tree.{node_bit, free, Full, Agree}
+use Rattle.bits16.specs.Bits.{Lowest}
+use Rattle.bitmap_tree.specs.Tree.{node_bit, Full, Agree}
 use Rattle.bitmap_tree.proofs.Nodes.{bit_in, bit_clear}
 use Rattle.bitmap_tree.proofs.Fullness.{level_next, level_exists}
 use Rattle.bitmap_search.specs.Heights.{up, Height, Under}

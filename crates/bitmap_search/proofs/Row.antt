@@ -8,7 +8,7 @@ use lib.ListN.{length, get_or}
 use Rattle.base.specs.Search.{Stops}
 use Rattle.bits16.specs.Bits.{Lowest}
 use Rattle.bits16.proofs.Laws.{lowest_set}
-use Rattle.bitmap_tree.specs.Tree.{node_bit, free}
+use Rattle.bitmap_tree.specs.Tree.{free}
 use Rattle.bitmap_tree.proofs.Nodes.{bit_in, child_bit}
 
 -- the frames from a up to node n are taken

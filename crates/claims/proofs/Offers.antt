@@ -1,15 +1,15 @@
 -- From what the searches find to what is offered. Assumes nothing.
 use mathlib.Core.Path.{◌≡◌}
 use mathlib.Core.List.{List}
-use Prim.Native.Nat.{ℕ, ◌+◌, ◌-◌, ◌*◌, ◌^◌, ◌≤◌, ◌<◌}
+use Prim.Native.Nat.{ℕ, ◌+◌, ◌-◌, ◌<◌}
 use native.Mathlib.Decide.{dec_lt}
 use native.Mathlib.Omega.{arith}
-use lib.ListN.{length, get_or, get_or-eq_default}
-use Rattle.bitmap_tree.specs.Tree.{free, cap, Full, Agree}
+use lib.ListN.{length, get_or-eq_default}
+use Rattle.bitmap_tree.specs.Tree.{free, cap}
 use Rattle.bitmap_tree.proofs.Nodes.{parent_none}
 use Rattle.bitmap_search.specs.Found.{IsNext, NoneFrom}
 use Rattle.bitmap_runs.specs.Runs.{Run, LowestRun}
-use Rattle.owners.specs.States.{State.Free, State.Reserved, state, Placed, Accounted}
+use Rattle.owners.specs.States.{State.Free, state, Placed, Accounted}
 use Rattle.owners.proofs.States.{state_told, free_state, not_reserved}
 use Rattle.owners.proofs.Writes.{has_place}
 use Rattle.claims.specs.Offers.{Known, Offered, FreeRun, RunOffered}

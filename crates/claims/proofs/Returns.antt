@@ -1,13 +1,12 @@
 -- Where an address stands, and whose the frames are. Assumes nothing.
-use mathlib.Core.Path.{◌≡◌, ◌∙◌, sym}
+use mathlib.Core.Path.{◌≡◌}
 use mathlib.Core.List.{List}
-use Prim.Native.Nat.{ℕ, ◌+◌, ◌-◌, ◌*◌, ◌/◌, ◌%◌, ◌≤◌, ◌<◌}
+use Prim.Native.Nat.{ℕ, ◌-◌, ◌%◌, ◌≤◌, ◌<◌}
 use native.Mathlib.Omega.{arith}
-use lib.ListN.{length, get_or}
+use lib.ListN.{get_or}
 use Rattle.base.specs.Search.{Stops}
 use Rattle.bitmap_tree.specs.Tree.{free, cap}
-use Rattle.bitmap_tree.proofs.Nodes.{bit_clear}
-use Rattle.owners.specs.States.{State.Free, State.Owned, state, HasOwner, Unowned}
+use Rattle.owners.specs.States.{State.Free, State.Owned, state, Unowned}
 use Rattle.owners.proofs.States.{state_told}
 use Rattle.owners.proofs.Writes.{owner}
 use Rattle.claims.specs.Returns.{Between, NotMine, Range, FirstOwned}

@@ -6,7 +6,6 @@ use native.Mathlib.Decide.{dec_le, dec_lt}
 use native.Mathlib.Omega.{arith}
 use lib.ListN.{length}
 use Rattle.base.specs.Ranges.{Outside}
-use Rattle.bitmap_tree.specs.Tree.{free}
 use Rattle.owners.specs.States.{State, State.Free, State.Reserved, State.Owned, state, Accounted}
 use Rattle.owners.specs.Writes.{Became}
 use Rattle.owners.proofs.States.{not_reserved}

@@ -6,7 +6,6 @@ use Prim.Native.Nat.{ℕ, ◌+◌, ◌-◌, ◌*◌, ◌/◌, ◌%◌, ◌^◌, 
 use native.Mathlib.Nat.{div-add-mod', mul-mod_left, add-mul, mul_left_comm, mul-one, mul-zero}
 use native.Mathlib.Decide.{dec_le, dec_lt}
 use native.Mathlib.Omega.{arith}
-use lib.ListN.{length}
 use Rattle.base.proofs.Counts.{many_change}
 use Rattle.bitmap_tree.specs.Tree.{cap}
 use Rattle.owners.specs.States.{State, State.Free, State.Owned, state}

@@ -5,7 +5,7 @@ use Prim.Native.Nat.{ℕ, ◌+◌, ◌*◌}
 use native.Mathlib.Omega.{arith}
 use Rattle.owners.specs.States.{State.Free, State.Owned}
 use Rattle.owners.specs.Writes.{Assigned}
-use Rattle.owners.proofs.States.{of_owned, not_reserved, client_not_reserved}
+use Rattle.owners.proofs.States.{of_owned, client_not_reserved}
 use Rattle.owners.proofs.Writes.{became, still, owned_right, free_right, has_place}
 use Rattle.claims.specs.Offers.{Offered, RunOffered}
 use Rattle.claims.specs.Returns.{Mine, RunMine}

@@ -2,7 +2,7 @@
 use mathlib.Core.Path.{◌≡◌, refl, sym, ◌∙◌}
 use mathlib.Core.Bool.{false}
 use mathlib.Core.List.{List}
-use Prim.Native.Nat.{ℕ, ◌+◌, ◌-◌, ◌*◌, ◌/◌, ◌%◌, ◌<◌, ◌≤◌}
+use Prim.Native.Nat.{ℕ, ◌+◌, ◌*◌, ◌/◌, ◌%◌, ◌<◌, ◌≤◌}
 use lib.ListN.{length, get_or}
 use native.Mathlib.Decide.{dec_lt}
 use native.Mathlib.Omega.{arith}
@@ -19,7 +19,7 @@ use Rattle.machine.specs.declared.Request.{Request}
 use Rattle.machine.specs.declared.Request.TheVariants.{Alloc, AllocContiguous, Dealloc, DeallocContiguous}
 use Rattle.machine.specs.declared.Answer.{Answer}
 use Rattle.machine.specs.State.{State, out, address_of, taken, freed}
-use Rattle.machine.specs.Step.{machine_of, fits, takes, gives, present, step}
+use Rattle.machine.specs.Step.{machine_of, fits, takes, gives, present}
 use Rattle.machine.proofs.Frames.{run_free, run_aligned, run_within, run_fits}
 use Rattle.machine.proofs.Cases.{of_present, takes_run, gives_at, back_done}
 use Rattle.zones.specs.Layout.{slots_in}

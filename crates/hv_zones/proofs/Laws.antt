@@ -7,7 +7,7 @@ use lib.Dec.{eqb}
 use lib.ListN.{get_or, set}
 use lib.Seq.{get_or-set_same}
 use native.Mathlib.Omega.{arith}
-use Rattle.base.specs.Choices.{both, at}
+use Rattle.base.specs.Choices.{both}
 use Rattle.base.proofs.Ranges.{set_only}
 use Rattle.config_view.specs.Table.{table_config}
 use Rattle.set_model.specs.Sets.{none}

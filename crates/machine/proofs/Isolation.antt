@@ -17,7 +17,7 @@ use Rattle.owners.specs.States as frames
 use Rattle.owners.specs.States.{State.Free, State.Reserved, State.Owned}
 use Rattle.machine.specs.declared.Which.{Which}
 use Rattle.machine.specs.State.{Plan, State, address_of}
-use Rattle.machine.specs.Run.{Event, after, run}
+use Rattle.machine.specs.Run.{Event, run}
 use Rattle.machine.specs.Reach.{Way, Way.ByRegion, Way.ByFrame, Reach, SharedBy, OfPool, OwnsPage, MonitorReach}
 use Rattle.machine.specs.Good.{given, Good}
 use Rattle.machine.proofs.Frames.{free_not_owned, owned_once}

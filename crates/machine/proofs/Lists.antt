@@ -2,14 +2,14 @@
 use mathlib.Core.Path.{◌≡◌, refl, sym, ◌∙◌, ap}
 use mathlib.Core.Bool.{Bool, true, false}
 use mathlib.Core.List.{List, [], ◌∷◌}
-use Prim.Native.Nat.{ℕ, zero, suc}
+use Prim.Native.Nat.{ℕ}
 use Rattle.base.specs.Choices.{pick}
 use Rattle.base.proofs.Choices.{never}
 use Rattle.machine.specs.declared.Request.{Request}
 use Rattle.machine.specs.declared.Answer.{Answer}
-use Rattle.machine.specs.State.{Plan, State, Outcome}
+use Rattle.machine.specs.State.{Plan, State}
 use Rattle.machine.specs.Step.{step}
-use Rattle.machine.specs.Lists.{Call, Call.One, Call.All, Reply, Reply.Stopped, is_done, Tried, Tried.Through, Tried.Halted, before, tries, Result, all_or_none, call}
+use Rattle.machine.specs.Lists.{Call.One, Call.All, Reply, Reply.Stopped, is_done, Tried, Tried.Through, Tried.Halted, before, tries, all_or_none, call}
 use Rattle.machine.specs.Run.{Event, Event.Asks, run}
 
 -- the requests one by one

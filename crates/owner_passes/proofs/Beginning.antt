@@ -1,11 +1,11 @@
 -- The start: every frame reserved, and then the first n free. Assumes nothing.
-use mathlib.Core.Path.{◌≡◌, refl, sym, ◌∙◌}
+use mathlib.Core.Path.{◌≡◌, refl, ◌∙◌}
 use mathlib.Core.List.{List}
-use Prim.Native.Nat.{ℕ, ◌+◌, ◌-◌, ◌*◌, ◌/◌, ◌%◌, ◌^◌, ◌≤◌, ◌<◌}
+use Prim.Native.Nat.{ℕ, ◌+◌, ◌%◌, ◌≤◌, ◌<◌}
 use native.Mathlib.Decide.{dec_lt}
 use native.Mathlib.Omega.{arith}
 use lib.ListN.{length, get_or, get_or-eq_default}
-use Rattle.bitmap_tree.specs.Tree.{free, cap, Full}
+use Rattle.bitmap_tree.specs.Tree.{free, cap}
 use Rattle.bitmap_tree.specs.Writes.{Changed}
 use Rattle.bitmap_tree.proofs.Nodes.{parent_none}
 use Rattle.bitmap_allocator.specs.Changes.{Reset}

@@ -1,8 +1,7 @@
 -- When the bit and the byte of a frame are in order. Assumes nothing.
-use mathlib.Core.Path.{◌≡◌, refl, sym, ◌∙◌}
+use mathlib.Core.Path.{◌≡◌}
 use mathlib.Core.Bool.{Bool, true, false}
-use Prim.Native.Nat.{ℕ, ◌+◌, ◌-◌, ◌*◌, ◌/◌, ◌^◌, ◌≤◌, ◌<◌}
-use native.Mathlib.Omega.{arith}
+use Prim.Native.Nat.{ℕ, ◌<◌}
 use Rattle.base.specs.Says.{Says}
 use Rattle.owners.specs.States.{State.Reserved, state_of, Placed, Right}
 use Rattle.owners.proofs.States.{Told, told_of}

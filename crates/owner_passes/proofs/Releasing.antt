@@ -6,9 +6,9 @@ use native.Mathlib.Decide.{dec_lt, dec_le}
 use native.Mathlib.Omega.{arith}
 use lib.ListN.{length, get_or, get_or-eq_default}
 use Rattle.base.specs.Search.{Stops}
-use Rattle.bitmap_tree.specs.Tree.{free, cap, Full}
+use Rattle.bitmap_tree.specs.Tree.{free, cap}
 use Rattle.bitmap_tree.proofs.Nodes.{bit_lt}
-use Rattle.owners.specs.States.{State, State.Free, State.Reserved, State.Owned, state, Matched, Accounted}
+use Rattle.owners.specs.States.{State.Free, State.Owned, state, Accounted}
 use Rattle.owners.specs.Writes.{Assigned, Became}
 use Rattle.owners.proofs.States.{free_state, owned_state, not_reserved, client_not_reserved}
 use Rattle.owners.proofs.Writes.{became, still, free_right, has_place}

@@ -1,19 +1,18 @@
 -- What writing bits and bytes does to the states, and what the searches find. Assumes nothing.
 use mathlib.Core.Path.{◌≡◌, refl, sym, ◌∙◌, ap₂, subst}
 use mathlib.Core.List.{List, [], ◌∷◌}
-use Prim.Native.Nat.{ℕ, zero, suc, ◌+◌, ◌*◌, ◌≤◌, ◌<◌}
+use Prim.Native.Nat.{ℕ, zero, suc, ◌+◌, ◌≤◌, ◌<◌}
 use native.Mathlib.Decide.{ℕ_discrete, dec_le, dec_lt}
 use native.Mathlib.Omega.{arith}
 use lib.ListN.{length, get_or, set, length-set}
 use lib.Seq.{get_or-set_same, get_or-set_other}
 use Rattle.base.specs.Ranges.{Outside}
 use Rattle.base.specs.Search.{Stops}
-use Rattle.bitmap_tree.specs.Tree.{free, cap, Full}
-use Rattle.bitmap_tree.specs.Writes.{Changed}
+use Rattle.bitmap_tree.specs.Tree.{free, cap}
 use Rattle.bitmap_tree.proofs.Nodes.{bit_clear}
-use Rattle.owners.specs.States.{State, State.Free, State.Reserved, State.Owned, state_of, state, HasOwner, Unowned, Matched, Placed, Right, RightAt, Accounted}
+use Rattle.owners.specs.States.{State, State.Reserved, State.Owned, state_of, state, HasOwner, Unowned, Placed, Right, RightAt, Accounted}
 use Rattle.owners.specs.Writes.{Filled, Assigned, Became, Kept}
-use Rattle.owners.proofs.States.{state_of_lem, state_told, same_state, free_state, owned_state, same_right}
+use Rattle.owners.proofs.States.{state_of_lem, state_told, same_state, owned_state, same_right}
 
 -- ---- bytes
 

@@ -1,7 +1,7 @@
 -- An example of every answer of the functions that change a set of regions. Assumes nothing.
 use mathlib.Core.Path.{refl}
 use mathlib.Core.List.{List}
-use Prim.Native.Nat.{ℕ, ◌≤◌, ◌<◌}
+use Prim.Native.Nat.{ℕ}
 use lib.Dec.{lit<, lit≤}
 use Rattle.address.specs.declared.Fault.{Fault}
 use Rattle.address.specs.declared.Region.{Region}

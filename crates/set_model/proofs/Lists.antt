@@ -4,7 +4,7 @@ use mathlib.Core.Bool.{Bool, true, false}
 use mathlib.Core.Logic.{◌⊎◌, inl, inr}
 use mathlib.Core.List.{List, [], ◌∷◌}
 use Prim.Native.Nat.{ℕ, zero, suc, ◌+◌, ◌*◌, ◌<◌, ◌≤◌, suc-le-suc, zero-le}
-use lib.Dec.{eqb, leb, ltb}
+use lib.Dec.{ltb}
 use lib.ListN.{length}
 use native.Mathlib.Nat.{not-suc-le-zero, le_of_suc-le-suc}
 use native.Mathlib.Omega.{arith}
@@ -13,7 +13,6 @@ use Rattle.base.specs.Choices.{pick}
 use Rattle.base.proofs.Choices.{by, never}
 use Rattle.address.specs.declared.Region.{Region}
 use Rattle.address.specs.Regions.{Valid}
-use Rattle.region_words.specs.Words.{nothing}
 use Rattle.set_model.specs.Sets.{same, meets, any, In, Every, find, enter, without, table, From, Ordered}
 use Rattle.set_model.proofs.Tests.{same_is, same_self, apart, meets_share, meets_turn}
 

@@ -3,12 +3,12 @@ use mathlib.Core.Path.{◌≡◌, refl, sym, ◌∙◌, subst}
 use mathlib.Core.Bool.{Bool, true, false}
 use mathlib.Core.Logic.{◌⊎◌, inl, inr}
 use mathlib.Core.List.{List, [], ◌∷◌}
-use Prim.Native.Nat.{ℕ, ◌+◌, ◌*◌, ◌/◌, ◌≤◌}
+use Prim.Native.Nat.{ℕ, ◌+◌, ◌*◌}
 use native.Mathlib.Omega.{arith}
 use Rattle.base.proofs.Choices.{never}
 use Rattle.base.specs.Choices.{pick}
 use Rattle.address.specs.declared.Region.{Region}
-use Rattle.address.specs.Pages.{InPages, Share}
+use Rattle.address.specs.Pages.{InPages}
 use Rattle.set_model.specs.Sets.{same, meets, any, In, find, enter, without, Ordered, RegionMaps, Maps, MapsMore, MapsLess}
 use Rattle.set_model.proofs.Tests.{same_is, share_meets, meets_turn}
 use Rattle.set_model.proofs.Lists.{any_cases, any_here, any_there, in_any, find_in, in_enter_new, in_enter_old, in_enter_only, in_without, behind_apart}

@@ -1,7 +1,7 @@
 -- What the tests of a region say. Assumes nothing.
 use mathlib.Core.Path.{◌≡◌, refl, sym, ◌∙◌, ap}
 use mathlib.Core.Bool.{Bool, true, false}
-use Prim.Native.Nat.{ℕ, ◌+◌, ◌*◌, ◌/◌, ◌%◌, ◌<◌, ◌≤◌}
+use Prim.Native.Nat.{ℕ, ◌+◌, ◌*◌, ◌/◌, ◌<◌, ◌≤◌}
 use lib.Dec.{eqb, leb, ltb}
 use native.Mathlib.Omega.{arith}
 use native.Mathlib.Decide.{dec_lt}
@@ -10,7 +10,7 @@ use Rattle.base.specs.Says.{Says}
 use Rattle.base.specs.Choices.{both}
 use Rattle.base.proofs.Choices.{both_left, both_right, never}
 use Rattle.address.specs.declared.Region.{Region}
-use Rattle.address.specs.Pages.{InPages, Share, Contains}
+use Rattle.address.specs.Pages.{Share, Contains}
 use Rattle.address.specs.Regions.{Valid}
 use Rattle.region_words.specs.Words.{number_of}
 use Rattle.region_words.proofs.Laws.{region_once, kind_once}

@@ -16,7 +16,7 @@ use Rattle.base.specs.Search.{Stops}
 use Rattle.address.specs.declared.Region.{Region}
 use Rattle.address.specs.Regions.{Valid}
 use Rattle.region_words.specs.Words.{nothing, HasRegion, Put}
-use Rattle.region_words.proofs.Laws.{region_back}
+use Rattle.region_words.proofs.Laws.{region_back, put_only}
 use Rattle.set_model.specs.Sets.{any, meets, enter, without, table}
 use Rattle.set_model.proofs.Lists.{table_enter, table_without, enter_ordered, without_ordered}
 use Rattle.set_slots.specs.Slots.{slot, regions_in, Lies, Readable, Fails, above, Empty, SetOk, Became}
@@ -24,7 +24,6 @@ use Rattle.set_slots.proofs.Found.{regions_are}
 use Rattle.set_slots.proofs.Order.{own_kind}
 use Rattle.set_shifts.specs.Shifts.{ShiftedUp, ShiftedDown, Wiped}
 use Rattle.base.proofs.Ranges.{set_only, only_then}
-use Rattle.region_words.proofs.Laws.{put_only}
 use Rattle.set_shifts.proofs.Kept.{region_same, words_same}
 
 -- the words of z outside those of the slots that changed, once the count is written too

@@ -1,6 +1,5 @@
 -- `bitmap_allocator::alloc_contiguous` meets its contract. Assumes nothing.
 use mathlib.Core.Path.{refl}
-use Prim.Native.Nat.{◌-◌}
 use native.Mathlib.Omega.{arith}
 use Rattle.base.proofs.Says.{told, refused, not_refused}
 use lib.ListN.{length}

@@ -1,6 +1,5 @@
 -- `bitmap_allocator::change_range` meets its contract. Assumes nothing.
 use mathlib.Core.Path.{refl}
-use Prim.Native.Nat.{◌-◌}
 use native.Mathlib.Omega.{arith}
 use lib.ListN.{length}
 use Rattle.base.proofs.Says.{refused, not_refused}

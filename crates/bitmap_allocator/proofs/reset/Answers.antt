@@ -1,6 +1,5 @@
 -- `bitmap_allocator::reset` meets its contract. Assumes nothing.
 use mathlib.Core.Path.{refl}
-use Prim.Native.Nat.{◌-◌}
 use Rattle.base.proofs.Says.{refused, not_refused}
 use Rattle.bitmap_allocator.proofs.Answers.{wiped}
 use Rattle.bitmap_allocator.proofs.reset.Goals as goal

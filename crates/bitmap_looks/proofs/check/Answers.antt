@@ -1,5 +1,4 @@
 -- `bitmap_looks::check` meets its contract. Assumes nothing.
-use Prim.Native.Nat.{◌-◌}
 use native.Mathlib.Omega.{arith}
 use lib.ListN.{length}
 use Rattle.base.proofs.Says.{refused, not_refused}

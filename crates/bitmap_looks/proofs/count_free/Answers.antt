@@ -1,5 +1,4 @@
 -- `bitmap_looks::count_free` meets its contract. Assumes nothing.
-use Prim.Native.Nat.{◌-◌}
 use Rattle.base.proofs.Says.{refused, not_refused}
 use Rattle.bitmap_looks.proofs.count_free.Goals as goal
 

@@ -1,5 +1,4 @@
 -- `bitmap_looks::next` meets its contract. Assumes nothing.
-use Prim.Native.Nat.{◌-◌}
 use native.Mathlib.Omega.{arith}
 use Rattle.base.proofs.Says.{told, refused, not_refused}
 use lib.ListN.{length}

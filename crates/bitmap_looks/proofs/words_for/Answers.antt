@@ -1,6 +1,5 @@
 -- `bitmap_looks::words_for` meets its contract. Assumes nothing.
 use mathlib.Core.Path.{sym, subst}
-use Prim.Native.Nat.{◌-◌}
 use native.Mathlib.Omega.{arith}
 use Rattle.base.proofs.Says.{refused, not_refused}
 use Rattle.bitmap_tree.specs.Tree.{Full}

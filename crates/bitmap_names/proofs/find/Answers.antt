@@ -1,5 +1,5 @@
 -- `find` is safe and ends: the measure is what is left of the text. Assumes nothing.
-use Rattle.std.proofs.Common.{◌-◌, arith}
+use Rattle.std.proofs.Common.{arith}
 use Rattle.bitmap_names.proofs.find.Goals as goal
 
 pub loop-e-init : goal.loop-e-init

@@ -1,5 +1,5 @@
 -- `is` is safe and ends: the measure is what is left of the list. Assumes nothing.
-use Rattle.std.proofs.Common.{◌-◌, arith}
+use Rattle.std.proofs.Common.{arith}
 use Rattle.bitmap_names.proofs.is.Goals as goal
 
 pub loop-i-init : goal.loop-i-init

@@ -1,5 +1,5 @@
 -- `request` is safe and ends: the measure is how many requests are left. Assumes nothing.
-use Rattle.std.proofs.Common.{◌-◌, arith}
+use Rattle.std.proofs.Common.{arith}
 use Rattle.bitmap_names.proofs.request.Goals as goal
 
 pub loop-k-init : goal.loop-k-init

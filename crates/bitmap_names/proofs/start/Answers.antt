@@ -1,5 +1,5 @@
 -- `start` is safe and ends: the measure is how many names are left. Assumes nothing.
-use Rattle.std.proofs.Common.{◌-◌, arith}
+use Rattle.std.proofs.Common.{arith}
 use Rattle.bitmap_names.proofs.start.Goals as goal
 
 pub loop-i-init : goal.loop-i-init

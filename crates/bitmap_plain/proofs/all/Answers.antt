@@ -1,5 +1,5 @@
 -- `all` is safe and ends: the measure is how many frames are left. Assumes nothing.
-use Rattle.std.proofs.Common.{◌-◌, arith}
+use Rattle.std.proofs.Common.{arith}
 use Rattle.bitmap_plain.proofs.all.Goals as goal
 
 pub loop-k-init : goal.loop-k-init

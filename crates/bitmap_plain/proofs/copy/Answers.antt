@@ -1,5 +1,5 @@
 -- `copy` is safe and ends: the measure is how many words are left. It keeps the length of `old`. Assumes nothing.
-use Rattle.std.proofs.Common.{◌-◌, arith}
+use Rattle.std.proofs.Common.{arith}
 use Rattle.bitmap_plain.proofs.copy.Goals as goal
 
 pub loop-i-init : goal.loop-i-init

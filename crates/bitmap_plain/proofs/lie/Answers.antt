@@ -1,5 +1,5 @@
 -- `lie` is safe and ends: the measure is how many words are left. Assumes nothing.
-use Rattle.std.proofs.Common.{◌-◌, arith}
+use Rattle.std.proofs.Common.{arith}
 use Rattle.bitmap_plain.proofs.lie.Goals as goal
 
 pub loop-n-init : goal.loop-n-init

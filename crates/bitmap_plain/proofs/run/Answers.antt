@@ -1,5 +1,5 @@
 -- `run` is safe and ends: the measure is how many bases are left. Assumes nothing.
-use Rattle.std.proofs.Common.{◌-◌, arith}
+use Rattle.std.proofs.Common.{arith}
 use Rattle.bitmap_plain.proofs.run.Goals as goal
 
 pub frames-n-requires : goal.frames-n-requires

@@ -1,5 +1,5 @@
 -- `same` is safe and ends: the measure is how many words are left. Assumes nothing.
-use Rattle.std.proofs.Common.{◌-◌, arith}
+use Rattle.std.proofs.Common.{arith}
 use Rattle.bitmap_plain.proofs.same.Goals as goal
 
 pub loop-i-init : goal.loop-i-init

@@ -1,6 +1,5 @@
 -- `bitmap_range::store` meets its contract. The invariant of its loop: the words passed are stored. The measure is what is left of them. Assumes nothing.
 use mathlib.Core.Path.{◌≡◌, refl}
-use Prim.Native.Nat.{◌-◌}
 use native.Mathlib.Omega.{arith}
 use Rattle.bitmap_range.proofs.Rows.{stored_next}
 use Rattle.bitmap_range.proofs.store.Goals as goal

@@ -1,5 +1,4 @@
 -- `bitmap_runs::find_long` meets its contract. The invariant of its loop is `Searching`; the measure is what is left of the frames. Assumes nothing.
-use Prim.Native.Nat.{◌-◌}
 use native.Mathlib.Omega.{arith}
 use Rattle.bitmap_tree.proofs.Fullness.{full_bound}
 use Rattle.bitmap_search.specs.Found.{NextSays}

@@ -1,5 +1,4 @@
 -- `bitmap_runs::find_short` meets its contract. The invariant of its loop is `Scanning`; the measure is what is left of the words. Assumes nothing.
-use Prim.Native.Nat.{◌-◌}
 use native.Mathlib.Omega.{arith}
 use Rattle.base.proofs.Says.{told}
 use Rattle.bitmap_tree.proofs.Fullness.{full_bound}

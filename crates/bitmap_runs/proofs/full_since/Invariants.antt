@@ -1,6 +1,6 @@
 -- What the loop of `bitmap_runs::full_since` keeps, and why it ends. Assumes nothing.
 use mathlib.Core.Path.{◌≡◌}
-use Prim.Native.Nat.{ℕ, ◌-◌, ◌≤◌, ◌<◌}
+use Prim.Native.Nat.{ℕ, ◌≤◌, ◌<◌}
 use lib.ListN.{get_or}
 use Rattle.bitmap_runs.proofs.full_since.Given as goal
 

@@ -1,5 +1,4 @@
 -- `bitmap_search::descend` meets its contract. The invariant of its loop is `Descending`; the measure is what is left of the words. Assumes nothing.
-use Prim.Native.Nat.{◌-◌}
 use native.Mathlib.Omega.{arith}
 use lib.ListN.{get_or}
 use Rattle.bits16.proofs.Laws.{lowest_some}

@@ -1,5 +1,5 @@
 -- What the loop of `bitmap_search::next_from` keeps, and why it ends. Assumes nothing.
-use Prim.Native.Nat.{◌+◌, ◌-◌}
+use Prim.Native.Nat.{◌+◌}
 use lib.ListN.{length}
 use Rattle.bitmap_search.proofs.Rise.{Rising}
 use Rattle.bitmap_search.proofs.next_from.Given as goal

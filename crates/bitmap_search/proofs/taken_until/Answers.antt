@@ -1,5 +1,4 @@
 -- `bitmap_search::taken_until` meets its contract. Assumes nothing.
-use Prim.Native.Nat.{◌-◌}
 use native.Mathlib.Omega.{arith}
 use Rattle.bitmap_tree.proofs.Fullness.{full_bound}
 use Rattle.bitmap_search.proofs.Row.{word_passed, word_ends}

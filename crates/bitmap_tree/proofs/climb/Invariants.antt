@@ -1,5 +1,4 @@
 -- What the loop of `bitmap_tree::climb` keeps, and why it ends. Assumes nothing.
-use Prim.Native.Nat.{◌-◌}
 use Rattle.bitmap_tree.proofs.Ascent.{Climbing}
 use Rattle.bitmap_tree.proofs.climb.Given as goal
 

@@ -1,5 +1,4 @@
 -- `bitmap_tree::count` meets its contract. The invariant of its loop is `Counting`; the measure is what is left of the words. Assumes nothing.
-use Prim.Native.Nat.{◌-◌}
 use native.Mathlib.Omega.{arith}
 use lib.ListN.{get_or}
 use Rattle.bitmap_tree.proofs.Fullness.{full_bound}

@@ -1,5 +1,4 @@
 -- `bitmap_tree::first_lie` meets its contract. The invariant of its loop: every word passed is honest. The measure is what is left of those that speak for words. Assumes nothing.
-use Prim.Native.Nat.{◌-◌}
 use native.Mathlib.Omega.{arith}
 use borrow.Author.Count.{below_more}
 use Rattle.bitmap_tree.proofs.Fullness.{full_bound, full_whole}

@@ -1,6 +1,6 @@
 -- `bitmap_tree::is_full` meets its contract. The invariant of its loop: s words make a tree of 16 ^ d frames, and no smaller power is that of w. The measure is what is left of 15. Assumes nothing.
 use mathlib.Core.Path.{refl}
-use Prim.Native.Nat.{◌+◌, ◌-◌}
+use Prim.Native.Nat.{◌+◌}
 use native.Mathlib.Omega.{arith}
 use borrow.Author.Count.{below_more}
 use Rattle.bitmap_tree.proofs.Fullness.{level_next, pow_le}

@@ -1,6 +1,5 @@
 -- `bitmap_tree::summary` meets its contract. The invariant of its loop: r has the summaries passed. The measure is what is left of sixteen. Assumes nothing.
 use mathlib.Core.Path.{◌≡◌, ◌∙◌}
-use Prim.Native.Nat.{◌-◌}
 use native.Mathlib.Omega.{arith}
 use borrow.Author.Count.{below_more}
 use Rattle.bitmap_tree.proofs.summary.Goals as goal

@@ -1,6 +1,5 @@
 -- `bits16::runs_of` meets its contract. The invariant of its loop: m has the starts of the runs of k. The measure is what is left of n. Assumes nothing.
 use native.Mathlib.Omega.{arith}
-use Prim.Native.Nat.{◌-◌}
 use mathlib.Core.Path.{◌≡◌}
 use Rattle.bits16.proofs.Doubling.{runs_one, runs_more}
 use Rattle.bits16.proofs.runs_of.Goals as goal

@@ -1,6 +1,6 @@
 -- `call_bytes::framing_of` meets its contract. Assumes nothing.
 use mathlib.Core.Path.{sym, subst}
-use Prim.Native.Nat.{ℕ, ◌+◌, ◌-◌}
+use Prim.Native.Nat.{ℕ, ◌+◌}
 use native.Mathlib.Omega.{arith}
 use Rattle.call_bytes.specs.Framing.{Breaks}
 use Rattle.call_bytes.proofs.Laws.{Walked, walked_none, walked_more, walked_all}

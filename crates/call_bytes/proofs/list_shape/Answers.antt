@@ -1,5 +1,4 @@
 -- `call_bytes::list_shape` meets its contract. Assumes nothing.
-use Prim.Native.Nat.{◌-◌}
 use native.Mathlib.Omega.{arith}
 use Rattle.base.proofs.Says.{refused, not_refused}
 use Rattle.call_bytes.proofs.Laws.{list_some, ahead_none, ahead_more, first_wrong, all_right}

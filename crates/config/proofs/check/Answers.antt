@@ -9,8 +9,7 @@ use Rattle.config_bytes.specs.declared.Read.{Read}
 use Rattle.config_bytes.proofs.Laws.{whole_readable}
 use Rattle.config_view.proofs.Laws.{view_bytes}
 use Rattle.config_rules.specs.declared.Judged.{Judged}
-use Rattle.config.proofs.Laws.{readable_some, bytes_in_view, told_read, judged_bytes, end_bytes, right_bytes}
-use Rattle.config.proofs.Laws.{readable_some, bytes_in_view, told_read, judged_bytes, wrong_told, end_bytes, right_bytes}
+use Rattle.config.proofs.Laws.{readable_some, bytes_in_view, told_read, judged_bytes, end_bytes, right_bytes, wrong_told}
 use Rattle.config.proofs.check.Goals as goal
 
 pub returns-in-TooShort : goal.returns-in-TooShort

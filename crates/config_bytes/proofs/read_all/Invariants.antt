@@ -1,5 +1,4 @@
 -- What the loop of `config_bytes::read_all` keeps, and why it ends. Assumes nothing.
-use Prim.Native.Nat.{◌-◌}
 use Rattle.config_bytes.proofs.Laws.{Machines}
 use Rattle.config_bytes.proofs.read_all.Given as goal
 

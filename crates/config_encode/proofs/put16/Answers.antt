@@ -1,5 +1,5 @@
 -- `config_encode::put16` meets its contract. Assumes nothing.
-use Prim.Native.Nat.{◌-◌, ◌/◌, ◌%◌}
+use Prim.Native.Nat.{◌/◌, ◌%◌}
 use native.Mathlib.Omega.{arith}
 use lib.ListN.{length-set}
 use Rattle.config_encode.proofs.Laws.{wrote16}

@@ -1,5 +1,5 @@
 -- `config_encode::put32` meets its contract. Assumes nothing.
-use Prim.Native.Nat.{◌-◌, ◌/◌, ◌%◌}
+use Prim.Native.Nat.{◌/◌, ◌%◌}
 use native.Mathlib.Omega.{arith}
 use Rattle.config_encode.proofs.Laws.{wrote32}
 use Rattle.config_encode.proofs.put32.Goals as goal

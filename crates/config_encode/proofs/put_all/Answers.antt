@@ -1,6 +1,5 @@
 -- `config_encode::put_all` meets its contract. Assumes nothing.
 use mathlib.Core.Path.{ap}
-use Prim.Native.Nat.{◌-◌}
 use Rattle.address.specs.declared.Region.{Region}
 use Rattle.config_view.specs.View.{viewed}
 use Rattle.config_encode.proofs.Laws.{wrote_all}

@@ -1,5 +1,4 @@
 -- `config_encode::put_machine` meets its contract. Assumes nothing.
-use Prim.Native.Nat.{◌-◌}
 use native.Mathlib.Omega.{arith}
 use Rattle.config_view.specs.View.{viewed}
 use Rattle.config_view.proofs.Laws.{view_machines}

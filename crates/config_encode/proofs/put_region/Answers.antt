@@ -1,5 +1,4 @@
 -- `config_encode::put_region` meets its contract. Assumes nothing.
-use Prim.Native.Nat.{◌-◌}
 use native.Mathlib.Omega.{arith}
 use Rattle.region_words.proofs.Laws.{number_small}
 use Rattle.config_encode.proofs.Laws.{wrote_region}

@@ -1,6 +1,6 @@
 -- `config_encode::put_regions` meets its contract. Assumes nothing.
 use mathlib.Core.Path.{◌≡◌, sym, subst}
-use Prim.Native.Nat.{ℕ, ◌-◌}
+use Prim.Native.Nat.{ℕ}
 use native.Mathlib.Omega.{arith}
 use Rattle.config_view.specs.View.{viewed}
 use Rattle.config_kept.proofs.Laws.{words_in_view, words_place}

@@ -1,6 +1,5 @@
 -- `config_kept::machine_kept` meets its contract. Assumes nothing.
 use mathlib.Core.Path.{sym, ◌∙◌}
-use Prim.Native.Nat.{◌-◌}
 use native.Mathlib.Omega.{arith}
 use Rattle.base.proofs.Says.{refused, not_refused}
 use Rattle.config_kept.proofs.Laws.{words_in_view, words_place}

@@ -1,5 +1,4 @@
 -- `config_kept::regions_kept` meets its contract. Assumes nothing.
-use Prim.Native.Nat.{◌-◌}
 use native.Mathlib.Omega.{arith}
 use Rattle.base.proofs.Says.{refused, not_refused}
 use Rattle.base.proofs.Search.{below_more}

@@ -1,6 +1,5 @@
 -- `config_kept::table_kept` meets its contract. Assumes nothing.
 use mathlib.Core.Path.{sym, ◌∙◌}
-use Prim.Native.Nat.{◌-◌}
 use native.Mathlib.Omega.{arith}
 use Rattle.base.proofs.Says.{refused, not_refused}
 use Rattle.config_view.specs.View.{viewed}

@@ -1,5 +1,4 @@
 -- `config_pairs::alone` meets its contract. Assumes nothing.
-use Prim.Native.Nat.{◌-◌}
 use Rattle.base.proofs.Says.{said, unsaid, refused, not_refused}
 use Rattle.config_pairs.proofs.alone.Goals as goal
 

@@ -1,7 +1,6 @@
 -- `config_pairs::apart` meets its contract. Assumes nothing.
 use mathlib.Core.Path.{sym, subst}
 use mathlib.Core.Bool.{true}
-use Prim.Native.Nat.{◌-◌}
 use native.Mathlib.Omega.{arith}
 use Rattle.config_pairs.specs.Pairs.{ApartSays}
 use Rattle.config_pairs.specs.declared.Rule.{Rule}

@@ -1,6 +1,5 @@
 -- `config_pairs::clash_of` meets its contract. Assumes nothing.
 use borrow.Author.Rules.{rules}
-use Prim.Native.Nat.{◌-◌}
 use native.Mathlib.Omega.{arith}
 use Rattle.config_view.specs.View.{viewed}
 use Rattle.config_view.proofs.Rows.{rows_none, rows_more}

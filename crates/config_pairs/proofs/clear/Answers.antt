@@ -1,5 +1,4 @@
 -- `config_pairs::clear` meets its contract. Assumes nothing.
-use Prim.Native.Nat.{◌-◌}
 use Rattle.base.proofs.Says.{said, unsaid}
 use Rattle.config_pairs.proofs.clear.Goals as goal
 

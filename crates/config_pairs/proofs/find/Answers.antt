@@ -1,6 +1,5 @@
 -- `config_pairs::find` meets its contract. Assumes nothing.
 use borrow.Author.Rules.{rules}
-use Prim.Native.Nat.{◌-◌}
 use native.Mathlib.Omega.{arith}
 use Rattle.config_view.proofs.Rows.{rows_none, rows_more, row_passed, row_found}
 use Rattle.config_pairs.proofs.Laws.{said_spares}

@@ -1,6 +1,5 @@
 -- `config_pairs::fine` meets its contract. Assumes nothing.
 use mathlib.Core.Path.{sym, subst}
-use Prim.Native.Nat.{◌-◌}
 use Rattle.base.specs.Says.{Says}
 use Rattle.config_pairs.specs.Pairs.{Holds}
 use Rattle.config_pairs.specs.declared.Rule.{Rule}

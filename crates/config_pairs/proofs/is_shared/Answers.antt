@@ -1,6 +1,5 @@
 -- `config_pairs::is_shared` meets its contract. Assumes nothing.
 use mathlib.Core.Path.{sym, ◌∙◌}
-use Prim.Native.Nat.{◌-◌}
 use Rattle.config_pairs.proofs.Laws.{ordinary_not, device_not}
 use Rattle.config_pairs.proofs.is_shared.Goals as goal
 

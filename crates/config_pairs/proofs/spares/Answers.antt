@@ -1,7 +1,6 @@
 -- `config_pairs::spares` meets its contract. Assumes nothing.
 use mathlib.Core.Path.{sym, subst}
 use mathlib.Core.Bool.{true}
-use Prim.Native.Nat.{◌-◌}
 use Rattle.base.proofs.Says.{unsaid}
 use Rattle.config_pairs.specs.Pairs.{SparesSays}
 use Rattle.config_pairs.specs.declared.Rule.{Rule}

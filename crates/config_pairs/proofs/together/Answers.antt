@@ -1,5 +1,4 @@
 -- `config_pairs::together` meets its contract. Assumes nothing.
-use Prim.Native.Nat.{◌-◌}
 use native.Mathlib.Omega.{arith}
 use Rattle.base.proofs.Says.{refused, not_refused}
 use Rattle.config_pairs.proofs.together.Goals as goal

@@ -1,6 +1,5 @@
 -- `config_rules::faultless` meets its contract. Assumes nothing.
 use mathlib.Core.Path.{sym}
-use Prim.Native.Nat.{◌-◌}
 use Rattle.base.proofs.Says.{told}
 use Rattle.address.proofs.Laws.{Faulty}
 use Rattle.config_rules.proofs.faultless.Goals as goal

@@ -1,7 +1,6 @@
 -- `config_singles::bad_in` meets its contract. Assumes nothing.
 use borrow.Author.Rules.{rules}
 use mathlib.Core.Path.{sym}
-use Prim.Native.Nat.{◌-◌}
 use native.Mathlib.Omega.{arith}
 use Rattle.base.proofs.Says.{refused, not_refused}
 use Rattle.base.proofs.Search.{below_more}

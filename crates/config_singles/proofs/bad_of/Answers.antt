@@ -1,7 +1,6 @@
 -- `config_singles::bad_of` meets its contract. Assumes nothing.
 use borrow.Author.Rules.{rules}
 use mathlib.Core.Path.{sym}
-use Prim.Native.Nat.{◌-◌}
 use native.Mathlib.Omega.{arith}
 use Rattle.config_view.specs.View.{viewed}
 use Rattle.config_view.proofs.Rows.{rows_none, rows_more, row_passed, row_found}

@@ -1,7 +1,6 @@
 -- `config_singles::each_fine` meets its contract. Assumes nothing.
 use mathlib.Core.Path.{sym, subst}
 use mathlib.Core.Bool.{true, false}
-use Prim.Native.Nat.{◌-◌}
 use Rattle.base.specs.Says.{Says}
 use Rattle.base.proofs.Says.{said, unsaid}
 use Rattle.config_singles.specs.Singles.{EachHolds}

@@ -1,6 +1,5 @@
 -- `config_singles::pool_of` meets its contract. Assumes nothing.
 use mathlib.Core.Path.{sym, ap, ◌∙◌}
-use Prim.Native.Nat.{◌-◌}
 use Rattle.config_view.specs.View.{place}
 use Rattle.config_singles.proofs.pool_of.Goals as goal
 

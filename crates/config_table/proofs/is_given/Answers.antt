@@ -1,6 +1,5 @@
 -- `config_table::is_given` meets its contract. Assumes nothing.
 use mathlib.Core.Path.{sym, ◌∙◌}
-use Prim.Native.Nat.{◌-◌}
 use native.Mathlib.Omega.{arith}
 use Rattle.base.proofs.Says.{said, unsaid}
 use Rattle.base.proofs.Search.{below_more}

@@ -1,5 +1,4 @@
 -- `config_table::machine` meets its contract. Assumes nothing.
-use Prim.Native.Nat.{◌-◌}
 use native.Mathlib.Omega.{arith}
 use Rattle.base.proofs.Search.{below_more}
 use Rattle.config_table.proofs.machine.Goals as goal

@@ -1,6 +1,6 @@
 -- `config_write::count_in` meets its contract. Assumes nothing.
 use mathlib.Core.Path.{◌∙◌}
-use Prim.Native.Nat.{◌-◌, ◌<◌}
+use Prim.Native.Nat.{◌<◌}
 use native.Mathlib.Omega.{arith}
 use Rattle.config_view.specs.View.{viewed}
 use Rattle.config_write.proofs.Laws.{count_in_lem, count_out}

@@ -1,6 +1,6 @@
 -- `config_write::number_in` meets its contract. Assumes nothing.
 use mathlib.Core.Path.{◌∙◌}
-use Prim.Native.Nat.{◌-◌, ◌<◌}
+use Prim.Native.Nat.{◌<◌}
 use native.Mathlib.Omega.{arith}
 use Rattle.config_view.specs.View.{viewed}
 use Rattle.config_write.proofs.Laws.{number_in_lem, number_out}

@@ -1,5 +1,4 @@
 -- `config_write::write_machine` meets its contract. Assumes nothing.
-use Prim.Native.Nat.{◌-◌}
 use native.Mathlib.Omega.{arith}
 use lib.ListN.{length-set}
 use Rattle.config_view.specs.View.{viewed}

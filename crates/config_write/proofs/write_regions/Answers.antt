@@ -1,5 +1,4 @@
 -- `config_write::write_regions` meets its contract. Assumes nothing.
-use Prim.Native.Nat.{◌-◌}
 use native.Mathlib.Omega.{arith}
 use Rattle.config_write.proofs.Laws.{regions_none, regions_more, regions_all}
 use Rattle.config_write.proofs.write_regions.Goals as goal

@@ -1,6 +1,5 @@
 -- `contents::others_until` meets its contract. Assumes nothing.
 use mathlib.Core.Path.{◌∙◌}
-use Prim.Native.Nat.{◌-◌}
 use native.Mathlib.Omega.{arith}
 use Rattle.base.proofs.Search.{stops_none, stops_more, stops_at}
 use Rattle.owner_passes.proofs.Counting.{owns_one}

@@ -1,5 +1,4 @@
 -- `contents::wipe_owned` meets its contract. Assumes nothing.
-use Prim.Native.Nat.{◌-◌}
 use native.Mathlib.Omega.{arith}
 use Rattle.owners.specs.States.{state}
 use Rattle.owner_passes.proofs.Counting.{owns_small}

@@ -1,5 +1,4 @@
 -- `contents::zero_until` meets its contract. Assumes nothing.
-use Prim.Native.Nat.{◌-◌}
 use native.Mathlib.Omega.{arith}
 use Rattle.base.proofs.Search.{stops_none, stops_more, stops_at}
 use Rattle.contents.proofs.zero_until.Goals as goal

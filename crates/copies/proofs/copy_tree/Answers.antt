@@ -1,6 +1,5 @@
 -- `copies::copy_tree` meets its contract. Assumes nothing.
 use mathlib.Core.Path.{refl}
-use Prim.Native.Nat.{◌-◌}
 use native.Mathlib.Omega.{arith}
 use Rattle.copies.proofs.Laws.{copied_none, copied_more, copied_all}
 use Rattle.copies.proofs.copy_tree.Goals as goal

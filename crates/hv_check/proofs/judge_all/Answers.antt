@@ -1,6 +1,5 @@
 -- `hv_check::judge_all` meets its contract. Assumes nothing.
 use native.Mathlib.Omega.{arith}
-use Prim.Native.Nat.{◌-◌}
 use Rattle.base.proofs.Says.{told}
 use Rattle.base.proofs.Search.{below_more}
 use Rattle.hv_check.specs.Checking.{JudgeSays}

@@ -1,6 +1,5 @@
 -- `hv_check::right_until` meets its contract. Assumes nothing.
 use native.Mathlib.Omega.{arith}
-use Prim.Native.Nat.{◌-◌}
 use Rattle.base.proofs.Says.{refused, not_refused}
 use Rattle.base.proofs.Search.{stops_none, stops_more, stops_at}
 use Rattle.hv_check.proofs.right_until.Goals as goal

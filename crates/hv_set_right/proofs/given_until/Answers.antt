@@ -1,5 +1,4 @@
 -- `hv_set_right::given_until` meets its contract. Assumes nothing.
-use Prim.Native.Nat.{◌-◌}
 use native.Mathlib.Omega.{arith}
 use Rattle.base.proofs.Says.{told}
 use Rattle.base.proofs.Search.{stops_none, stops_more, stops_at}

@@ -1,5 +1,4 @@
 -- `lending::tree_for` meets its contract. Assumes nothing.
-use Prim.Native.Nat.{◌-◌}
 use native.Mathlib.Omega.{arith}
 use Rattle.lending.proofs.Laws.{rises, rises_more, risen, rising_bound}
 use Rattle.lending.proofs.tree_for.Goals as goal

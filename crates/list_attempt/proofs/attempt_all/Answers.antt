@@ -1,6 +1,6 @@
 -- `list_attempt::attempt_all` meets its contract. Assumes nothing.
 use mathlib.Core.Path.{◌≡◌, refl, sym, ◌∙◌}
-use Prim.Native.Nat.{◌+◌, ◌-◌, ◌*◌}
+use Prim.Native.Nat.{◌+◌, ◌*◌}
 use native.Mathlib.Omega.{arith}
 use Rattle.request_bytes.specs.Requests.{request_at}
 use Rattle.list_attempt.proofs.Laws.{went_none, halts_here, went_on}

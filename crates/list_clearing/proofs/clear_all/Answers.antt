@@ -1,6 +1,6 @@
 -- `list_clearing::clear_all` meets its contract. Assumes nothing.
 use mathlib.Core.Path.{◌≡◌}
-use Prim.Native.Nat.{◌+◌, ◌-◌, ◌*◌}
+use Prim.Native.Nat.{◌+◌, ◌*◌}
 use native.Mathlib.Omega.{arith}
 use Rattle.request_bytes.specs.Requests.{request_at}
 use Rattle.list_clearing.proofs.Laws.{all_none, all_more, still_backed}

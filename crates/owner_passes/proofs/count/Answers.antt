@@ -1,6 +1,6 @@
 -- `owner_passes::count` meets its contract. Assumes nothing.
 use mathlib.Core.Path.{sym, ◌∙◌, ◌≡◌, ap₂}
-use Prim.Native.Nat.{◌+◌, ◌-◌}
+use Prim.Native.Nat.{◌+◌}
 use native.Mathlib.Omega.{arith}
 use Rattle.base.proofs.Counts.{many_le, many_none}
 use Rattle.bitmap_tree.specs.Tree.{cap}

@@ -1,5 +1,4 @@
 -- `owner_passes::release` meets its contract. Assumes nothing.
-use Prim.Native.Nat.{◌-◌}
 use native.Mathlib.Omega.{arith}
 use lib.ListN.{length}
 use Rattle.base.proofs.Search.{stops_none, stops_at}

@@ -1,6 +1,5 @@
 -- `owner_passes::right_until` meets its contract. Assumes nothing.
 use mathlib.Core.Path.{sym}
-use Prim.Native.Nat.{◌-◌}
 use native.Mathlib.Omega.{arith}
 use Rattle.base.proofs.Says.{refused, not_refused}
 use Rattle.base.proofs.Search.{stops_none, stops_more, stops_at}

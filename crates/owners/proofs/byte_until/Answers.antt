@@ -1,6 +1,5 @@
 -- `owners::byte_until` meets its contract. Assumes nothing.
 use mathlib.Core.Path.{sym, ◌∙◌}
-use Prim.Native.Nat.{◌-◌}
 use native.Mathlib.Omega.{arith}
 use Rattle.base.proofs.Search.{stops_none, stops_more, stops_at}
 use Rattle.owners.proofs.Writes.{byte_at}

@@ -1,6 +1,5 @@
 -- `owners::fill` meets its contract. Assumes nothing.
 use mathlib.Core.Path.{◌≡◌}
-use Prim.Native.Nat.{◌-◌}
 use native.Mathlib.Omega.{arith}
 use Rattle.owners.proofs.Writes.{fill_none, fill_more}
 use Rattle.owners.proofs.fill.Goals as goal

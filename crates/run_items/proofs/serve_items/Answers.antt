@@ -1,6 +1,6 @@
 -- `run_items::serve_items` meets its contract. Assumes nothing.
 use mathlib.Core.Path.{refl, sym, ◌∙◌, subst}
-use Prim.Native.Nat.{ℕ, ◌+◌, ◌-◌}
+use Prim.Native.Nat.{ℕ, ◌+◌}
 use native.Mathlib.Omega.{arith}
 use Rattle.run_items.proofs.Laws.{Ahead, ahead_whole, ahead_next, before_all, before_rest, before_none, spare_stays}
 use Rattle.run_items.proofs.serve_items.Goals as goal

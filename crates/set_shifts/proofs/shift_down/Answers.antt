@@ -1,6 +1,6 @@
 -- `set_shifts::shift_down` meets its contract. Assumes nothing.
 use native.Mathlib.Omega.{arith}
-use Prim.Native.Nat.{ℕ, ◌-◌}
+use Prim.Native.Nat.{ℕ}
 use mathlib.Core.Path.{◌≡◌, refl, subst}
 use Rattle.set_shifts.specs.Shifts.{ShiftedDown}
 use Rattle.set_shifts.proofs.Steps.{down_start, down_step}

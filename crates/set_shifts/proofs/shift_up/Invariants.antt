@@ -1,5 +1,5 @@
 -- What the loop of `set_shifts::shift_up` keeps, and why it ends. Assumes nothing.
-use Prim.Native.Nat.{◌-◌, ◌≤◌}
+use Prim.Native.Nat.{◌≤◌}
 use mathlib.Core.Path.{◌≡◌}
 use lib.ListN.{length}
 use Rattle.set_shifts.specs.Shifts.{ShiftedUp}

@@ -1,6 +1,6 @@
 -- `set_shifts::wipe` meets its contract. Assumes nothing.
 use native.Mathlib.Omega.{arith}
-use Prim.Native.Nat.{ℕ, ◌-◌}
+use Prim.Native.Nat.{ℕ}
 use mathlib.Core.Path.{◌≡◌, refl, subst}
 use Rattle.set_shifts.specs.Shifts.{Wiped}
 use Rattle.set_shifts.proofs.Steps.{wipe_start, wipe_step}

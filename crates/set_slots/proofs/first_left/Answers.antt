@@ -1,6 +1,5 @@
 -- `set_slots::first_left` meets its contract. Assumes nothing.
 use native.Mathlib.Omega.{arith}
-use Prim.Native.Nat.{◌-◌}
 use Rattle.base.proofs.Says.{refused, not_refused}
 use Rattle.base.proofs.Search.{stops_none, stops_more, stops_at}
 use Rattle.set_slots.proofs.first_left.Goals as goal

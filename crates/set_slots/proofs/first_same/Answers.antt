@@ -1,6 +1,5 @@
 -- `set_slots::first_same` meets its contract. Assumes nothing.
 use native.Mathlib.Omega.{arith}
-use Prim.Native.Nat.{◌-◌}
 use mathlib.Core.Path.{◌∙◌}
 use Rattle.base.proofs.Search.{stops_none, stops_more, stops_at}
 use Rattle.set_model.specs.Sets.{same}

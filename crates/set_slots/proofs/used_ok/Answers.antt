@@ -2,11 +2,10 @@
 use native.Mathlib.Omega.{arith}
 use mathlib.Core.Path.{sym, subst}
 use Rattle.base.proofs.Says.{refused, not_refused}
-use Rattle.set_slots.proofs.Order.{own_words}
+use Rattle.set_slots.proofs.Order.{own_words, first_used, used_said}
 use Rattle.address.specs.declared.Region.{Region}
 use Rattle.address.specs.Regions.{Valid}
 use Rattle.region_words.specs.Words.{HasRegion}
-use Rattle.set_slots.proofs.Order.{first_used, used_said}
 use Prim.Native.Nat.{◌-◌}
 use Rattle.set_slots.proofs.used_ok.Goals as goal
 

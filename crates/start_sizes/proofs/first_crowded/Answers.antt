@@ -3,7 +3,6 @@ use borrow.Author.Rules.{rules}
 use native.Mathlib.Omega.{arith}
 use native.Mathlib.Numerals.{add-one}
 use mathlib.Core.Path.{sym}
-use Prim.Native.Nat.{◌-◌}
 use Rattle.base.proofs.Search.{stops_none, stops_more, stops_at}
 use Rattle.start_sizes.proofs.first_crowded.Goals as goal
 

@@ -1,5 +1,5 @@
 -- `effect::all_became` is safe and ends: the measure is how many frames are left. Assumes nothing.
-use Rattle.std.proofs.Common.{◌-◌, arith}
+use Rattle.std.proofs.Common.{arith}
 use Rattle.bitmap_judge.proofs.effect.all_became.Goals as goal
 
 pub frames-n-requires : goal.frames-n-requires

@@ -1,5 +1,5 @@
 -- `random::fill` is safe and ends: the measure is how many words are left. It keeps the length. Assumes nothing.
-use Rattle.std.proofs.Common.{◌-◌, arith}
+use Rattle.std.proofs.Common.{arith}
 use Rattle.bitmap_plain.proofs.random.fill.Goals as goal
 
 pub loop-i-init : goal.loop-i-init
