@@ -1,13 +1,13 @@
 """Every answer that a public function of an interface crate can give has an example, or a theorem that it is never given.
 
 The examples of the crate some_crate stand in a file SomeCrate.antt among the proofs of a crate whose name ends in _examples. An
-answer is named by the function and the variants on the way to it: `alloc-no-room`, `start-no-zones-wrong`. What stands for it
+answer is named by the function and the variants on the way to it: `alloc_no_room`, `start_no_zones_wrong`. What stands for it
 is one of
 
     NAME          an example: the contract at that answer, met by words and arguments
-    NAME-never    a theorem that the contract has no such answer, or none of sound memories
-    NAME-each     a theorem that takes every answer beneath NAME from an example of another function's
-    FUNCTION-only a theorem that lists the answers that sound memories can give: all others are never given, but for
+    NAME_never    a theorem that the contract has no such answer, or none of sound memories
+    NAME_each     a theorem that takes every answer beneath NAME from an example of another function's
+    FUNCTION_only a theorem that lists the answers that sound memories can give: all others are never given, but for
                   Corrupt, which is what other memories are for, and has an example
 
 The exported functions (replayframes and its like) are left out: they answer with codes.
@@ -27,7 +27,7 @@ def every_answer_has_its_example(repository):
         for function, contract in repository.public_functions(crate):
             predicate = predicate_of(contract)
             for path in answers(repository, crate, answer_of(contract)):
-                name = kebab([function, *path])
+                name = snake([function, *path])
                 yield Result(f"{crate}: {name}", fault(laws, function, path, predicate))
 
 
@@ -38,22 +38,22 @@ def laws_of(repository, crate):
     for home in filter(re.compile(r"_examples$").search, repository.crates()):
         if re.search(rf"(?m)^pub mod {module}$", repository.read(f"crates/{home}/proofs/Lib.antt")):
             text = repository.read(f"crates/{home}/proofs/{module}.antt")
-            laws.update(re.findall(r"(?m)^pub ([\w-]+) : ((?:.*\n)(?:[ \t].*\n)*)", text))
+            laws.update(re.findall(r"(?m)^pub (\w+) : ((?:.*\n)(?:[ \t].*\n)*)", text))
     return laws
 
 
 def fault(laws, function, path, predicate):
     """What is wrong with the example of an answer."""
-    name = kebab([function, *path])
+    name = snake([function, *path])
     if name in laws:
         return lacking(laws[name], predicate, *path[-1:])
-    if f"{name}-never" in laws:
-        return lacking(laws[f"{name}-never"], predicate, *path[-1:], "⊥")
+    if f"{name}_never" in laws:
+        return lacking(laws[f"{name}_never"], predicate, *path[-1:], "⊥")
     for length in range(len(path), 0, -1):
-        each = laws.get(f"{kebab([function, *path[:length]])}-each")
+        each = laws.get(f"{snake([function, *path[:length]])}_each")
         if each:
             return lacking(each, predicate, path[length - 1], "→")
-    only = laws.get(f"{kebab([function])}-only", "")
+    only = laws.get(f"{snake([function])}_only", "")
     if lacking(only, predicate, "Sound"):
         return "has no example, and no theorem that it is never given"
     return "has no example" if path[-1] == "Corrupt" or speaks_of(only, path[-1]) else ""
@@ -69,9 +69,9 @@ def speaks_of(law, word):
     return re.search(rf"(?<!\w){word}(?!\w)" if word.isidentifier() else word, law) is not None
 
 
-def kebab(words):
-    """A name of words in lower case with hyphens."""
-    return "-".join(re.sub(r"(?<=[a-z0-9])(?=[A-Z])", "-", word).replace("_", "-").lower() for word in words)
+def snake(words):
+    """A name of words in lower case with underscores."""
+    return "_".join(re.sub(r"(?<=[a-z0-9])(?=[A-Z])", "_", word).lower() for word in words)
 
 
 def answer_of(contract):
@@ -82,7 +82,7 @@ def answer_of(contract):
 
 def predicate_of(contract):
     """The first word of a function's contract that begins with a capital: what it says of the answer."""
-    found = re.search(r"ensures\s*\{[^.]*\.\s*⌜(.*)", contract, re.S)
+    found = re.search(r"\bensures\b[^{]*\{(.*)", contract, re.S)
     words = re.findall(r"(?<![\w.])([A-Z]\w+)", found.group(1)) if found else []
     return next((word for word in words if word != "List"), "≡")
 
@@ -107,7 +107,7 @@ def declared(repository, crate, kind):
     found = re.search(rf"\bpub enum {kind} \{{(.*?)\n\}}", text, re.S)
     if found:
         return crate, variants_in(found.group(1))
-    other = re.search(rf"\buse (\w+)::{kind};", text)
+    other = re.search(rf"\buse (\w+)::(?:{kind}|\{{[^}}]*\b{kind}\b[^}}]*\}});", text)
     return declared(repository, other.group(1), kind) if other else (crate, None)
 
 

@@ -15,11 +15,10 @@ import toolchain
 import verdict
 from repository import Repository, Result
 
-# Each takes the repository and yields results. Those of `verdict` read what `rt ci` leaves, those of `rust` link
+# Each takes the repository and yields results. Those of `verdict` read what `rt ci` printed, those of `rust` link
 # what it proved, those of `differences` read what these printed, and those of `c` and `cli` link the archive.
 CHECKS = [
     selftest.results,
-    toolchain.formatted,
     *rules.RULES,
     *contracts.RULES,
     *answers.RULES,

@@ -40,7 +40,8 @@ class Repository:
         return path.read_text() if path.is_file() else ""
 
     def crates(self):
-        return [line.partition(":")[0].strip() for line in self.listed("crates.txt")]
+        """The names of the crates. In crates.txt a static library has the word `staticlib` behind its name."""
+        return [line.partition(":")[0].split()[0] for line in self.listed("crates.txt")]
 
     def interfaces(self):
         return self.listed("interfaces.txt")
@@ -49,7 +50,9 @@ class Repository:
         return not (self.root / "crates" / crate / "src" / "main.rt").exists()
 
     def files(self, crate, pattern):
-        return sorted((self.root / "crates" / crate).rglob(pattern))
+        """The files of a crate, without those that `rt` wrote into its folder out/."""
+        folder = self.root / "crates" / crate
+        return sorted(file for file in folder.rglob(pattern) if file.relative_to(folder).parts[0] != "out")
 
     def sources(self, crate):
         """The text of each source file, without comments."""

@@ -36,8 +36,14 @@ def no_requires(repository):
             yield Result(f"{crate}::{name} takes any arguments", "has a requires" if re.search(r"\brequires\b", contract) else "")
         own = {name for name, _ in functions}
         for text in repository.sources(crate):
-            for name in re.findall(r"\bpub\s+use\s+[\w:]*::([a-z]\w*)", text):
+            for name in handed_on(text):
                 yield Result(f"{crate}::{name} is its own", "" if name in own else "hands on a function of another crate")
+
+
+def handed_on(text):
+    """The functions of other crates that a source hands on: each name in small letters at the end of a path of `pub use`."""
+    for paths in re.findall(r"\bpub\s+use\s+([^;]*);", text):
+        yield from re.findall(r"(?:::|[{,])\s*([a-z]\w*)\s*(?=[,}]|as\b|$)", paths)
 
 
 def edits_attack_functions(repository):

@@ -1,5 +1,5 @@
 """Runs the Rust that stands beside the proofs, and makes results of what it says. rust/README.md says what
-it is. The archive is that of the crates as they are: `rt ci` proves them first.
+it is. The archive is that of the crates as they are: `./archive` proves them for itself.
 
 Each check takes a repository and yields a result for each thing that it looks at."""
 import os

@@ -25,18 +25,18 @@ DIFFERENCES = "# Title\n\n| | input | the original | here | why | test |\n|---|-
 
 # A repository in which every rule is content, with what a run of the prover would have left.
 GOOD = {
-    "crates.txt": "inner:   # a comment\nopen: inner\nopen_examples: open\nreplayframes_a:\nprints: open io libc\n",
+    "crates.txt": "inner:   # a comment\nopen: inner\nopen_examples: open\nreplayframes_a staticlib:\nprints: open\n",
     "interfaces.txt": "# a comment\nopen\n",
-    "crates/inner/src/lib.rt": "pub fn low(a: u8) -> u8\n    requires { ⌜ a < 9 ⌝ }\n{\n    a\n}\n",
+    "crates/inner/src/lib.rt": "pub enum How {\n    Well,\n}\n\npub fn low(a: u8) -> u8\n    requires { a < 9 }\n{\n    a\n}\n",
     "crates/inner/specs/Lib.antt": "-- no axiom\npub mod Words\n",
     "crates/inner/specs/Words.antt": (
-        "use Prim.Native.Nat.{ℕ, _<_}\n\n-- pub gone : ℕ\nabbrev pub Low : ℕ → Type 0\nLow a = a < 9\n\n"
+        "use Prim.Native.Nat.{ℕ, ◌<◌}\n\n-- pub gone : ℕ\nabbrev pub Low : ℕ → Type 0\nLow a = a < 9\n\n"
         "pub record Fits (a : ℕ) : Type 0 where\n  pub low : Low a\n\npub data Size : Type 0 where\n  Small : Size\n\n"
         "module _ (a : ℕ) where\n  pub law : Low a → Fits a\n  law l = record { low = l }\n"
     ),
     "docs/CONTRACTS.md": (
         f"# Title\n\n{WRONG}| `Set::get` | lies | no clause | `open/one.a`, `open/two.b` | `Fits.low` (crates/inner/specs/Words.antt) |\n"
-        "| `Set::put` | lies | no clause | `one-yes` (crates/open_examples/proofs/Open.antt) | `Low` |\n"
+        "| `Set::put` | lies | no clause | `one_yes_well` (crates/open_examples/proofs/Open.antt) | `Low` |\n"
         f"| `Set::put` | none | it is exact | none | `Low` |\n\n## src/a/b.rs\n\n{HEAD}"
         "| `Set::get`, `Set::put` | all | `inner::low`, `Fits.low`, `Size.Small`, `law` (crates/inner/specs/Words.antt), `inner` | same |\n"
         "| `Holds::held` | it holds | none | left out (as for `get`) |\n| `Steps::go`, `Steps::grow`, `top` | it ends | `Low` | stronger (more) |\n"
@@ -51,16 +51,16 @@ GOOD = {
         "pub open spec(checked) fn top() -> bool {\n    true\n}\n"
     ),
     "crates/open/src/lib.rt": (
-        "pub use inner::Word;\n\n// pub fn gone() requires\npub enum Said {\n    Yes(u8),\n    // Because.\n    No(Why),\n    Corrupt,\n}\n\n"
-        "pub enum Why {\n    TooMany,\n    TooFew { by: u8 },\n}\n\npub fn one(a: u8) -> Said\n"
-        "    ensures { λ r. ⌜ OneSays {A = ℕ} r ⌝ }\n    ensures more { λ r. ⌜ g r ⌝ }\n{\n    a\n}\n\n"
-        'pub extern "C" fn two(t: &[u16], o: &mut [u64], a: u8, v: &mut usize) -> u8 {\n    own(a)\n}\n\n'
-        "fn own(a: u8) -> u8\n    requires { ⌜ a < 9 ⌝ }\n{\n    a\n}\n"
+        "pub use inner::{How, Word};\n\n// pub fn gone() requires\npub enum Said {\n    Yes(How),\n    // Because.\n    No(Why),\n    Corrupt,\n}\n\n"
+        "#[derive(Clone, Copy)]\npub enum Why {\n    TooMany,\n    TooFew { by: u8 },\n}\n\npub fn one(a: u8) -> Said\n"
+        "    ensures said { OneSays {A = ℕ} result }\n    ensures more { g result }\n{\n    a\n}\n\n"
+        '#[unsafe(no_mangle)]\npub extern "C" fn two(t: &[u16], o: &mut [u64], a: u8, v: &mut usize) -> u8 {\n    own(a)\n}\n\n'
+        "fn own(a: u8) -> u8\n    requires { a < 9 }\n{\n    a\n}\n"
     ),
     "crates/open_examples/proofs/Lib.antt": "pub mod Open\n",
     "crates/open_examples/proofs/Open.antt": (
-        "pub one-yes : OneSays (Said.Yes 1)\none-yes = tt\n\npub one-no-each : (w : Why)\n    → OneSays (Said.No w)\none-no-each w = tt\n\n"
-        "pub one-corrupt-never : OneSays Said.Corrupt → ⊥\none-corrupt-never e = e\n\npub two : 1 ≡ 1\ntwo = refl\n"
+        "pub one_yes_well : OneSays (Said.Yes How.Well)\none_yes_well = tt\n\npub one_no_each : (w : Why)\n    → OneSays (Said.No w)\none_no_each w = tt\n\n"
+        "pub one_corrupt_never : OneSays Said.Corrupt → ⊥\none_corrupt_never e = e\n\npub two : 1 ≡ 1\ntwo = refl\n"
     ),
     "crates/open/specs/Lib.antt": "-- What is said.\n",
     "crates/open/must-fail/one.a.edit": "file: src/lib.rt\nold: TooMany\nnew: Many\n",
@@ -88,30 +88,38 @@ GOOD = {
             (1, 16), (17, 256), (273, 4096), (4369, 65536), (69905, 1048576), (0, "not full"), (18, "not full"), (272, "not full")
         ]
     ),
-    "target/log/inner.out": "logic=proved functions=1 sum=0\nrt: inner proved (60 s)\n",
-    "target/log/open_examples.out": "logic=proved functions=0 sum=0\nrt: open_examples proved (1 s)\n",
-    "target/log/replayframes_a.out": "logic=proved functions=1 sum=0\nrt: replayframes_a proved (1 s)\n",
-    "target/log/open.out": "library inner: modules loaded=1\nlogic=proved functions=3 axioms=0 sum=0\nrt: open proved (3 s)\n",
-    "target/log/prints.out": "library libc: modules loaded=1\nlogic=proved functions=1 axioms=1 sum=0\nrt: prints proved (3 s)\n",
+    # What `rt` made of a crate is none of its files.
+    "crates/open/out/rlib/open.rlib/Lib.antt": "axiom pub made : ⊥\n",
+    toolchain.SAID: (
+        "== inner\nstatements libc: modules loaded=0 checked=0\nlogic=proved functions=1 sum=0\nrt: inner proved\n"
+        "== open\nlibrary inner: modules loaded=1 checked=0\nlogic=proved functions=3 axioms=0 sum=0\nrt: open proved\n"
+        "rt: open_examples is kept: an earlier run on this machine proved the same files over the same libraries\n"
+        "== replayframes_a\naxioms std: none reached of the 2 declared\nlogic=proved functions=1 sum=0\nrt: replayframes_a proved\n"
+        "== prints\nstatements libc: modules loaded=1 checked=0\nlogic=proved functions=1 axioms=1 sum=0\nrt: prints proved\n"
+        "rt: open: trying its must-fail edits (4)\n"
+        "rt: must-fail open/one.a.edit: refused, as it must be: ./proofs/one/Answers.antt:2:1: error: `returns`: `omega`: the goal does not follow\n"
+        "rt: must-fail open/one.b.edit: refused, as it must be: note: src/lib.rt:9:1: it is not proved that what the function ensures holds\n"
+        "rt: must-fail open/two.a.edit: refused, as it must be: ./proofs/Laws.antt:2:1: error: `law`: expected type `1 < 0`, but this has type `0 < 1`\n"
+        "rt: must-fail open/two.b.edit: refused, as it must be: ./proofs/two/Answers.antt:2:1: error: `returns`: `search`: no proof of `0 < 0`\n"
+    ),
 }
-for label in ("one.a", "one.b", "two.a", "two.b"):
-    GOOD[f"target/must-fail/open/{label}.res"] = "refused\n"
-    GOOD[f"target/must-fail/open/{label}.out"] = f"rt: must-fail open/{label}: refused, as it must be (first at x; 900 s)\n"
-    GOOD[f"target/must-fail/open/{label}/.log"] = (
-        "/x/proofs/one/Proof.antt:1:1: error: `close` was not admitted, so this cannot be checked\n"
-        "/x/proofs/one/Proof.antt:2:1: error: `returns`: `omega`: the goal does not follow from what it read\n"
-        "/x/proofs/one/Proof.antt:3:1: error: `one-spec`: expected type `tie.Need-a`, but this has type `tie.Need-b`\n"
-    )
 
 SOURCE = "crates/open/src/lib.rt"
 EXAMPLES = "crates/open_examples/proofs/Open.antt"
 SHOWN = GOOD[EXAMPLES]
-ONLY = "pub one-only : Sound b → OneSays r → "
+ONLY = "pub one_only : Sound b → OneSays r → "
 TABLE = "docs/CONTRACTS.md"
 HEADER = GOOD[c.HEADER]
 ORIGINAL = "upstream/src--a--b.rs.txt"
 WORDS = "(crates/inner/specs/Words.antt)"
-LOG = "target/must-fail/open/one.a/.log"
+PROVED = GOOD[toolchain.SAID]
+
+
+def edit_told(told):
+    """What `rt ci` printed, where this stands behind its words of a refusal of one edit."""
+    head = f"rt: must-fail open/one.a.edit: {verdict.REFUSED}"
+    return "".join(f"{head}{told}\n" if line.startswith(head) else line for line in PROVED.splitlines(True))
+
 
 # (the rule, a file, what it holds instead or None if it is not there, a part of what the rule must say)
 BAD = [
@@ -119,13 +127,15 @@ BAD = [
     (rules.assumes_nothing, "crates/inner/specs/Lib.antt", "axiom pub wrong : ⊥\n", "Lib.antt has an axiom"),
     (rules.assumes_nothing, "crates/inner/specs/Lib.antt", "f = Prim.Axiom.lem\n", "Lib.antt has an axiom"),
     (rules.interfaces_are_listed, "interfaces.txt", "open\nabsent\n", "is not in crates.txt"),
-    (rules.no_requires, SOURCE, "pub fn one(a: u8)\n    requires { ⌜ a < 9 ⌝ }\n{\n}\n", "has a requires"),
-    (rules.no_requires, SOURCE, "pub fn one(a: u8)\n    ensures { ⌜ {a} ⌝ }\n    requires { ⌜ a ⌝ }\n{\n}\n", "has a requires"),
-    (rules.no_requires, SOURCE, "pub fn one(a: u8)\n    ghost { ℕ }\n    requires { λ n. ⌜ n < a ⌝ }\n{\n}\n", "has a requires"),
-    (rules.no_requires, SOURCE, "pub fn one()\n    requires { ⌜ a ⌝ }\n{\n}\n\nimpl One {\n    pub fn one() {}\n}\n", "has a requires"),
-    (rules.no_requires, SOURCE, 'pub extern "C" fn two()\n    requires { ⌜ a ⌝ }\n{\n}\n', "has a requires"),
+    (rules.no_requires, SOURCE, "pub fn one(a: u8)\n    requires { a < 9 }\n{\n}\n", "has a requires"),
+    (rules.no_requires, SOURCE, "pub fn one(a: u8)\n    ensures { Says {a} result }\n    requires { a < 9 }\n{\n}\n", "has a requires"),
+    (rules.no_requires, SOURCE, "pub fn one(a: u8)\n    ghost n: { ℕ }\n    requires bound { n < a }\n{\n}\n", "has a requires"),
+    (rules.no_requires, SOURCE, "pub fn one()\n    requires { a < 9 }\n{\n}\n\nimpl One {\n    pub fn one() {}\n}\n", "has a requires"),
+    (rules.no_requires, SOURCE, 'pub extern "C" fn two()\n    requires { a < 9 }\n{\n}\n', "has a requires"),
     (rules.no_requires, SOURCE, "pub use inner::low;\n", "hands on a function of another crate"),
-    (rules.no_requires, "crates/replayframes_a/src/lib.rt", 'pub extern "C" fn a()\n    requires { ⌜ a ⌝ }\n{\n}\n', "has a requires"),
+    (rules.no_requires, SOURCE, "pub use inner::{Word, low};\n", "hands on a function of another crate"),
+    (rules.no_requires, SOURCE, "pub use inner::{low as high};\n", "hands on a function of another crate"),
+    (rules.no_requires, "crates/replayframes_a/src/lib.rt", 'pub extern "C" fn a()\n    requires { a < 9 }\n{\n}\n', "has a requires"),
     (rules.edits_attack_functions, SOURCE, "pub fn one() {}\npub fn two() {}\npub fn three() {}\n", "has 0"),
     (rules.edits_attack_functions, SOURCE, "pub fn one() {}\n", "has no public function two"),
     (rules.edits_keep_the_outline, "crates/open/must-fail/one.a.edit", "file: proofs/one/Proof.antt\nold: a\nnew: b\n", "edits a proof"),
@@ -143,20 +153,20 @@ BAD = [
     (contracts.original_is_covered, ORIGINAL, "tokenized_state_machine! {\n    Steps {\n        init! { begin() {} }\n    }\n}\n", "no row names it"),
     (contracts.rows_say_how, TABLE, f"## src/a/b.rs\n{HEAD}| `Set::get` | all | none | perhaps |\n", "does not say how"),
     (contracts.rows_say_how, TABLE, f"## src/a/b.rs\n{HEAD}| `Set::get` | all | same |\n", "has 3 cells"),
-    (answers.every_answer_has_its_example, EXAMPLES, SHOWN.replace("pub one-yes", "pub one-maybe"), "has no example, and no theorem"),
+    (answers.every_answer_has_its_example, EXAMPLES, SHOWN.replace("pub one_yes", "pub one_maybe"), "has no example, and no theorem"),
     (answers.every_answer_has_its_example, EXAMPLES, SHOWN.replace("OneSays (Said.Yes", "TwoOneSays (Said.Yes"), "does not speak of OneSays"),
-    (answers.every_answer_has_its_example, EXAMPLES, SHOWN.replace("Said.Yes 1", "Said.Corrupt"), "does not speak of Yes"),
-    (answers.every_answer_has_its_example, EXAMPLES, SHOWN.replace("one-no-each", "one-each"), "has no example, and no theorem"),
+    (answers.every_answer_has_its_example, EXAMPLES, SHOWN.replace("Said.Yes How.Well", "Said.Corrupt"), "does not speak of Well"),
+    (answers.every_answer_has_its_example, EXAMPLES, SHOWN.replace("one_no_each", "one_each"), "has no example, and no theorem"),
     (answers.every_answer_has_its_example, EXAMPLES, SHOWN.replace("\n    → OneSays (Said.No w)", " × OneSays (Said.No w)"), "does not speak of →"),
     (answers.every_answer_has_its_example, EXAMPLES, SHOWN.replace("→ ⊥", "→ Unit"), "does not speak of ⊥"),
     (answers.every_answer_has_its_example, EXAMPLES, SHOWN.replace("OneSays Said.Corrupt →", "⊥ →"), "does not speak of OneSays"),
     (answers.every_answer_has_its_example, EXAMPLES, ONLY + "(r ≡ Yes) ⊎ (r ≡ TooFew)\n", "has no example"),
-    (answers.every_answer_has_its_example, EXAMPLES, SHOWN.replace("pub one-corrupt-never", ONLY + "(r ≡ Yes)\n\npub one-gone"), "has no example"),
+    (answers.every_answer_has_its_example, EXAMPLES, SHOWN.replace("pub one_corrupt_never", ONLY + "(r ≡ Yes)\n\npub one_gone"), "has no example"),
     (answers.every_answer_has_its_example, EXAMPLES, ONLY.replace("OneSays", "Other") + "(r ≡ Yes)\n", "has no example, and no theorem"),
     (answers.every_answer_has_its_example, "crates/open_examples/proofs/Lib.antt", "-- pub mod Open\n", "has no example, and no theorem"),
     (contracts.cited_names_exist, TABLE, f"{WRONG}| `Set::get` | lies | no clause | none | `Fits.high` {WORDS} |\n", "does not define it"),
     (contracts.wrong_programs_are_edits, TABLE, f"{WRONG}| `Set::get` | lies | no clause | `open/one.c` | `Low` |\n", "there is no edit open/one.c"),
-    (contracts.wrong_programs_are_edits, TABLE, f"{WRONG}| `Set::get` | lies | no clause | `one-gone` ({EXAMPLES}) | `Low` |\n", "does not prove one-gone"),
+    (contracts.wrong_programs_are_edits, TABLE, f"{WRONG}| `Set::get` | lies | no clause | `one_gone` ({EXAMPLES}) | `Low` |\n", "does not prove one_gone"),
     (contracts.wrong_programs_are_edits, TABLE, f"{WRONG}| `Set::get` | lies | no clause | `law` {WORDS} | `Low` |\n", "does not prove law"),
     (contracts.wrong_programs_are_edits, TABLE, f"{WRONG}| `Set::gone` | lies | no clause | `open/one.a` | `Low` |\n", "the original has no Set::gone"),
     (contracts.wrong_programs_are_edits, TABLE, f"{WRONG}| `Set::get` | lies | no clause | one.a | `Low` |\n", "names no edit and no law"),
@@ -173,33 +183,42 @@ BAD = [
     (differences.differences_are_tested, "docs/DIFFERENCES.md", "# Title\n", "has no table with rows"),
     (differences.differences_are_tested, "docs/DIFFERENCES.md", f"{DIFFERENCES}| F1 | a | b | c | `F1` |\n", "has 5 cells, and not 6"),
     (expected_cases.results, "crates/bitmap_cases/stdout", "\nwords: 1\ncap: 17\n", "is not what the judge answers"),
-    (toolchain.formatted, SOURCE, "pub fn one() { }\n", "not in the layout"),
-    (verdict.rests_on_nothing, "target/log/open.out", "logic=proved functions=3 foreign=open::f sum=0\n", "foreign=open::f"),
-    (verdict.rests_on_nothing, "target/log/open.out", "logic=proved functions=3 axioms=1 sum=0\n", "axioms=1"),
-    (verdict.rests_on_nothing, "target/log/open.out", "library libc: modules loaded=1\nlogic=proved functions=3 sum=0\n", "rests on libc"),
-    (verdict.rests_on_nothing, "target/log/open.out", "logic=not-proved\n", "is not proved"),
-    (verdict.crates_are_quick, "target/log/inner.out", "rt: inner proved (61 s)\n", "took 61 s"),
-    (verdict.crates_are_quick, "target/log/inner.out", "rt: inner NOT PROVED (exit 1, 3 s)\n", "is not proved"),
-    (verdict.edits_are_quick, "target/must-fail/open/one.a.out", "rt: must-fail open/one.a: refused (first at x; 901 s)\n", "took 3601 s"),
-    (verdict.refused_for_a_fact, "target/must-fail/open/one.a.res", "survived\n", "is not refused"),
-    (verdict.refused_for_a_fact, LOG, "fn open::one: not proved\nlogic=not-proved\n", "nothing says what is not proved"),
+    (verdict.rests_on_nothing, toolchain.SAID, PROVED.replace("axioms=0", "foreign=open::f"), "foreign=open::f"),
+    (verdict.rests_on_nothing, toolchain.SAID, PROVED.replace("axioms=0", "axioms=1"), "axioms=1"),
+    (verdict.rests_on_nothing, toolchain.SAID, PROVED.replace("none reached", "1 reached"), "axioms std: 1 reached"),
+    (verdict.rests_on_nothing, toolchain.SAID, PROVED.replace("libc: modules loaded=0", "libc: modules loaded=2"), "rests on libc"),
+    (verdict.rests_on_nothing, toolchain.SAID, PROVED.replace("inner proved", "inner NOT PROVED"), "is not proved"),
+    (verdict.rests_on_nothing, toolchain.SAID, PROVED.replace("open_examples is kept", "open is kept"), "is not proved"),
+    (verdict.rests_on_nothing, toolchain.SAID, None, "is not proved"),
+    (verdict.refused_for_a_fact, toolchain.SAID, None, "is not refused: nothing is said of it"),
+    (verdict.refused_for_a_fact, toolchain.SAID, PROVED.replace("refused, as it must be", "NOT REFUSED"), "is not refused: NOT REFUSED"),
+    (verdict.refused_for_a_fact, toolchain.SAID, edit_told(""), "nothing says what is not proved"),
+    (verdict.refused_for_a_fact, toolchain.SAID, edit_told(": note: src/lib.rt:1:1: the proof is long"), "nothing says what is not proved"),
+    (verdict.refused_for_a_fact, toolchain.SAID, edit_told(" (only because a proof file names what is gone): x"), "is refused (only because"),
+    (verdict.refused_for_a_fact, toolchain.SAID, edit_told(" (only by a limit of the prover): x"), "is refused (only by a limit"),
 ] + [
-    (verdict.refused_for_a_fact, LOG, f"/x/{file}:1:1: error: `{name}`: {error}\n", "is refused for its shape")
+    (verdict.refused_for_a_fact, toolchain.SAID, edit_told(f": {file}:1:1: error: `{name}`: {error}"), "is refused for its shape")
     for file, name, error in [
-        ("proofs/f/Proof.antt", "add-n", "`tie.Need-add-n`: module `f.Tie` has no `Need-add-n` that can be named from here"),
-        ("proofs/f/Proof.antt", "returns", "record `lts.Start` has no field `before`"),
-        ("proofs/f/Proof.antt", "returns", "record `lts.After-a-place-of-a-longer-name`\n  has no field `before`"),
-        ("proofs/f/Proof.antt", "f-spec", "expected type `tie.Need-a`, but this has type `tie.Need-b`"),
-        ("proofs/f/Proof.antt", "f-spec", "`tie.spec` takes 3 arguments"),
-        ("proofs/f/Proof.antt", "loop-holds", "expected a type, but `tie.Need-loop-holds Inv-loop` has type `tie.InvT-loop2 → Type 0`"),
-        ("proofs/f/Proof.antt", "Inv-loop", "this pattern needs a function (or path) type to bind"),
-        ("proofs/f/Proof.antt", "returns", "this tuple has 2 components but its type has 3"),
-        ("proofs/f/Proof.antt", "returns", "a tuple is checked against `Took t k t′`"),
-        ("proofs/f/Proof.antt", "returns", "this λ is checked against `Took t k t′`"),
-        ("proofs/f/Proof.antt", "returns", "a dimension variable is expected here"),
-        ("proofs/Laws.antt", "law", "`low` is not a field of record `Lowest`"),
-        ("proofs/Laws.antt", "law", "expected type `ℕ`, but this has type `List ℕ`"),
-        ("specs/Words.antt", "Low", "`nothing` is not in scope"),
+        ("./proofs/f/Answers.antt", "returns", "`goal.returns-then`: module `Rattle.f.Goals` has no `returns-then` that can be named from here"),
+        ("./proofs/f/Answers.antt", "returns", "record `Rattle.f.Lts.Start` has no field `before`"),
+        ("./proofs/f/Answers.antt", "returns", "record `Rattle.f.Lts.After-a-place-of-a-longer-name`"),
+        ("./proofs/f/Answers.antt", "returns", "`Took t k t'`"),
+        ("./proofs/f/Answers.antt", "returns", "`Took (a.term.that.is + cut"),
+        ("./proofs/f/Answers.antt", "returns", "`Took t k t'` is a declared record, built with `record { … }`, not a tuple"),
+        ("./proofs/f/Answers.antt", "returns", "`low` was not admitted, so this cannot be checked"),
+        ("./proofs/f/Answers.antt", "returns", "`goal.returns` takes 3 arguments"),
+        ("./proofs/f/Answers.antt", "holds-loop", "expected a type, but `goal.holds-loop` has type `Invariant → Type 0`"),
+        ("./proofs/f/Answers.antt", "returns", "this tuple has 2 components but its type has 3"),
+        ("./proofs/f/Answers.antt", "returns", "a tuple is checked against `Took t k t'`"),
+        ("./proofs/f/Answers.antt", "returns", "this λ is checked against `Took t k t'`"),
+        ("./proofs/f/Answers.antt", "returns", "a dimension variable is expected here"),
+        ("./proofs/f/Invariants.antt", "invariant-loop", "this pattern needs a function (or path) type to bind"),
+        ("./proofs/Laws.antt", "law", "`low` is not a field of record `Lowest`, which has none"),
+        ("./proofs/Laws.antt", "law", "expected type `Prim.Native.Nat.ℕ`, but this has type `Bool`"),
+        ("./proofs/Laws.antt", "law", "expected type `List ℕ`, but this has type `ℕ`"),
+        ("./proofs/Laws.antt", "law", "`nothing` is not in scope"),
+        ("specs/Words.antt", "Low", "expected type `Bool`, but this has type `Type 0`"),
+        ("src/lib.rt", "ensures-1", "expected type `Type 0`, but this has type `Bool`"),
     ]
 ] + [
     (c.header_declares_the_exports, c.HEADER, HEADER.replace(old, new), said)
@@ -228,7 +247,9 @@ BAD = [
 
 # How `rt ci` ends and what it said, and how many passed and failed by that.
 COUNTS = [
-    (0, "rt: ok\n2 passed, 0 failed\n", 2, 0),
+    (0, "rt: ok; handles allowed: none; must-fail edits: 1 refused; every proof was done\n2 passed, 0 failed\n", 2, 0),
+    (0, "rt: ok; handles allowed: none; must-fail edits: 1 refused, 1 bad; every proof was done\n2 passed, 0 failed\n", 2, 1),
+    (0, "2 passed, 0 failed\n", 2, 1),
     (1, "rt: FAILED: a\n2 passed, 1 failed\n", 2, 1),
     (2, "2 passed, 0 failed\n", 2, 1),
     (0, "2 passed, 0 failed\nrt: a\n", 0, 1),
@@ -280,7 +301,7 @@ def faults(rule, files):
 def results(_):
     """Each check of files, and most of what counts a program's words, can fail."""
     files = rules.RULES + contracts.RULES + differences.RULES + answers.RULES + verdict.RULES + c.FILE_RULES
-    for rule in files + [expected_cases.results, toolchain.formatted]:
+    for rule in files + [expected_cases.results]:
         yield Result(f"{rule.__name__} is content", "; ".join(faults(rule, GOOD)))
     for rule, file, text, said in BAD:
         found = faults(rule, {**GOOD, file: text})

@@ -5,7 +5,10 @@ import subprocess
 from repository import Result
 
 # The proofs were made with this one: it is what `rt version` prints.
-WANTED = "rattle-kit-5b logic 064da1ca440f63e7"
+WANTED = "rattle-kit-13f logic dac8208d650f15bf"
+
+# What `rt ci` printed.
+SAID = "target/ci.txt"
 
 
 def run(repository, *words):
@@ -26,22 +29,27 @@ def version():
         return ""
 
 
-def formatted(repository):
-    """Every file is in the layout of `rt fmt`."""
-    said = subprocess.run(["rt", "fmt", "--check"], cwd=repository.root, stdout=subprocess.PIPE, stderr=subprocess.STDOUT, text=True)
-    yield Result("rt fmt --check", "" if said.returncode == 0 else "fails: " + said.stdout)
-
-
 def proved(repository):
-    """`rt ci`: every crate is proved, every must-fail edit refused, every program run."""
-    yield from counted(*run(repository, "rt", "ci"))
+    """`rt ci`: every file is laid out, every crate proved, every must-fail edit refused, every program run."""
+    status, said = run(repository, "rt", "ci")
+    file = repository.root / SAID
+    file.parent.mkdir(exist_ok=True)
+    file.write_text(said)
+    yield from counted(status, said)
 
 
 def counted(status, said):
-    """A result for each thing that `rt ci` counts in its last line."""
+    """A result for each thing that `rt ci` counts in its last line. Bad edits, which it counts in its line `rt: ok` and
+    passes, are a fault."""
     last = re.fullmatch(r"(\d+) passed, (\d+) failed", said.strip().rpartition("\n")[2])
     passed, failed = map(int, last.groups()) if last else (0, 0)
     yield from [Result("rt ci")] * passed
     yield from [Result("rt ci", "see above")] * failed
+    ok = re.search(r"(?m)^rt: ok; .*$", said)
+    bad = re.search(r", (\d+) bad;", ok.group()) if ok else None
+    if bad and int(bad.group(1)) > 0:
+        yield Result("rt ci", f"counts {bad.group(1)} bad must-fail edits")
     if status != 0 and failed == 0 or not last:
         yield Result("rt ci", f"ended with status {status} and counted no failure")
+    elif failed == 0 and not ok:
+        yield Result("rt ci", "does not say that all is ok")

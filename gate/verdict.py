@@ -1,90 +1,83 @@
-"""What `rt ci` left below target/: what each crate rests on, how long its check took, and why each
-must-fail edit was refused.
+"""What `rt ci` printed: what each library rests on, and why each must-fail edit was refused.
 
 Each rule takes a repository and yields a result for each thing that it looks at."""
 import re
 
 from repository import Result
-
-# A crate is to be proved in 20 s on a quiet machine. The clock counts whatever else the machine does, so only
-# three times as much is a failure.
-CRATE_SECONDS = 60
-EDITS_SECONDS = 3600
+from toolchain import SAID
 
 # The toolchain's libraries that declare foreign functions, whose contracts are assumed.
 FOREIGN = ["libc", "os"]
 
+# How `rt ci` begins what it says of an edit that the prover refused, before the first thing that was not proved.
+REFUSED = "refused, as it must be"
+
 # How the prover speaks where it could not come to a fact, since the proof no longer fits what was edited: a
-# need, a place or a field that is gone, another list of needs or another loop, specs that mean nothing.
+# goal, a place or a field that is gone, another list of facts or another loop, specs that mean nothing. `rt ci`
+# prints the first line of what it says, cut after 160 characters; where that only names a type, what follows says that
+# a field is gone, or that this is no tuple.
 SHAPE = [
     r"that can be named from here",
-    r"record `.*` has no field",
+    r"has no field",
+    r": error: `[^`]*`: (?:record )?`[^`]*`?$",
     r"is not a field of record",
-    r": error: `\S+`: `\S+` is not in scope",
+    r"is not in scope",
+    r"was not admitted",
     r"takes .* arguments",
-    r"expected a type, but `tie\.",
+    r"expected a type, but `goal\.",
     r"this tuple has \d+ components",
     r"a tuple is checked against",
+    r"is a declared record, built with",
     r"this λ is checked against",
     r"a dimension .* is expected here",
-    r"expected type `(?:ℕ|List ℕ)`",
-    r": error: `\S+-spec`: ",
-    r": error: `(?:Inv|μ)-\S*`: ",
-    r"/(?:src|specs)/\S+: error: ",
+    r"expected type `(?:[\w.]*\bList )?[\w.]*ℕ`",
+    r"/Invariants\.antt:\S+ error: ",
+    r"^(?:\./)?(?:src|specs)/\S+ error: ",
 ]
 
 
 def rests_on_nothing(repository):
     """The check of a library reached no axiom and no foreign function. That of a program may: it prints."""
+    said = repository.read(SAID)
     for crate in filter(repository.is_library, repository.crates()):
-        log = repository.read(f"target/log/{crate}.out")
-        verdict = re.search(r"(?m)^logic=proved .*$", log)
-        faults = [f"rests on {library}, which declares foreign functions" for library in FOREIGN if re.search(rf"(?m)^library {library}: ", log)]
-        if not verdict:
-            faults.append("is not proved")
-        elif re.search(r" foreign=| axioms=(?!0\b)", verdict.group()):
-            faults.append(verdict.group())
-        yield Result(f"{crate} rests on no axiom", ", ".join(faults))
+        yield Result(f"{crate} rests on no axiom", ", ".join(assumed(said, crate)))
 
 
-def crates_are_quick(repository):
-    """Each crate is proved in little time."""
-    for crate in repository.crates():
-        took = re.search(rf"(?m)^rt: {crate} proved \((\d+) s\)$", repository.read(f"target/log/{crate}.out"))
-        fault = "" if took else "is not proved"
-        if took and int(took.group(1)) > CRATE_SECONDS:
-            fault = f"took {took.group(1)} s"
-        yield Result(f"{crate} is proved in {CRATE_SECONDS} s", fault)
-
-
-def edits_are_quick(repository):
-    """All edits together take little time."""
-    total = 0
-    for crate in repository.crates():
-        for edit in repository.edits(crate):
-            said = repository.read(f"target/must-fail/{edit.name}.out")
-            total += sum(map(int, re.findall(r"(\d+) s\)$", said, re.MULTILINE)))
-    yield Result(f"the edits take {EDITS_SECONDS} s together", "" if total <= EDITS_SECONDS else f"took {total} s")
+def assumed(said, crate):
+    """What the check of a crate assumed, as `rt ci` says. Of a crate that an earlier run proved on this machine it says
+    only that; there, too, the prover refused each axiom of the crate's own, and `rt` each foreign function."""
+    if re.search(rf"(?m)^rt: {crate} is kept: ", said):
+        return
+    check = re.search(rf"(?ms)^== {crate}\n(.*?)^rt: {crate} proved$", said)
+    if not check:
+        yield "is not proved"
+        return
+    for library in FOREIGN:
+        if re.search(rf"(?m)^(?:library|statements) {library}: modules loaded=(?!0 )", check.group(1)):
+            yield f"rests on {library}, which declares foreign functions"
+    yield from re.findall(r"(?m)^axioms \S+: (?!none reached).*$", check.group(1))
+    yield from re.findall(r"(?m)^logic=proved .*(?: foreign=| axioms=(?!0\b)).*$", check.group(1))
 
 
 def refused_for_a_fact(repository):
     """Each edit was refused since something is not so, not since the proof has another shape."""
+    told = dict(re.findall(r"(?m)^rt: must-fail (\S+)\.edit: (.*)$", repository.read(SAID)))
     for crate in repository.crates():
         for edit in repository.edits(crate):
-            fault = "" if repository.read(f"target/must-fail/{edit.name}.res").strip() == "refused" else "is not refused"
-            log = repository.read(f"target/must-fail/{edit.name}/.log")
-            first = first_error(log)
-            if any(re.search(shape, first) for shape in SHAPE):
-                fault = "is refused for its shape: " + first[:300]
-            elif not first and not re.search(r"(?m)^note: .*: it is not proved that ", log):
-                fault = fault or "is refused, and nothing says what is not proved"
-            yield Result(f"{edit.name} is refused for a fact", fault)
+            yield Result(f"{edit.name} is refused for a fact", unfounded(told.get(edit.name, "nothing is said of it")))
 
 
-def first_error(log):
-    """The first error that does not only follow from others, on one line."""
-    errors = re.findall(r"(?m)^\S+: error: .*(?:\n  has no field .*)?$", log)
-    return next((" ".join(error.split()) for error in errors if "was not admitted" not in error), "")
+def unfounded(told):
+    """Why that which `rt ci` says of an edit is no refusal for a fact, or nothing."""
+    if not told.startswith(REFUSED):
+        return f"is not refused: {told}"
+    reason = told.removeprefix(REFUSED).removeprefix(": ")
+    if reason.startswith(" (only "):
+        return f"is refused{reason}"
+    if any(re.search(shape, reason) for shape in SHAPE):
+        return f"is refused for its shape: {reason}"
+    is_told = ": error: " in reason or ": it is not proved that " in reason
+    return "" if is_told else f"is refused, and nothing says what is not proved: {reason}"
 
 
-RULES = [rests_on_nothing, crates_are_quick, edits_are_quick, refused_for_a_fact]
+RULES = [rests_on_nothing, refused_for_a_fact]

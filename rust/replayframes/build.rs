@@ -25,9 +25,16 @@ fn refuse(fault: &str) -> ! {
     exit(1);
 }
 
+/// The folders of the crates' files. What `rt` makes of a crate lies beside them, in `out`, and changes with every check.
+fn parts(crates: &Path) -> Vec<PathBuf> {
+    let folders = fs::read_dir(crates).into_iter().flatten().flatten();
+    let parts = folders.flat_map(|folder| ["src", "specs", "proofs"].map(|part| folder.path().join(part)));
+    parts.filter(|part| part.is_dir()).collect()
+}
+
 /// The repository's archive, as its crates are now.
 fn of_repository(root: &Path) -> PathBuf {
-    watch(&root.join("crates"));
+    parts(&root.join("crates")).iter().for_each(|part| watch(part));
     watch(&root.join("crates.txt"));
     let script = root.join("archive");
     match Command::new(&script).status() {
