@@ -96,6 +96,7 @@ pub fn alloc(tree: &mut [u16]) -> Allocated
 
 // Takes the lowest run of `size` free frames whose first is a multiple of 2 to the power of
 // `align_log2`.
+#[tactic(auto, using(base::proofs::Says::not_refused))]
 pub fn alloc_contiguous(tree: &mut [u16], size: usize, align_log2: usize) -> RunTaken
     ensures { RunSays tree.old size align_log2 tree.new result }
 {
@@ -150,6 +151,7 @@ pub fn remove(tree: &mut [u16], from: usize, to: usize) -> Ranged
 
 // What `insert` and `remove` have in common: the frames become free where v is 1, and taken where v
 // is 0.
+#[tactic(auto, using(base::proofs::Says::not_refused))]
 fn change_range(tree: &mut [u16], from: usize, to: usize, v: u16) -> Ranged
     requires { v < 2 }
     ensures { RangeSays tree.old from to v tree.new result }

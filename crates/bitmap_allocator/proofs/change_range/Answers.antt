@@ -10,12 +10,6 @@ use Rattle.bitmap_allocator.proofs.change_range.Goals as goal
 pub returns-then-not-is_full : goal.returns-then-not-is_full
 returns-then-not-is_full c = (refl, refused c.is_full.result c.if-not-is_full.true-raw c.is_full.ensures)
 
-pub returns-then-from-to : goal.returns-then-from-to
-returns-then-from-to c = (refl, not_refused c.is_full.result c.if-not-is_full.false-raw c.is_full.ensures, c.if-from-to.true)
-
-pub returns-then-to-from : goal.returns-then-to-from
-returns-then-to-from c = (refl, not_refused c.is_full.result c.if-not-is_full.false-raw c.is_full.ensures, c.if-to-from.true)
-
 pub overflow_mul-w : goal.overflow_mul-w
 overflow_mul-w c = let f : Full (length c.args.tree.now) = not_refused c.is_full.result c.if-not-is_full.false-raw c.is_full.ensures in
     let b = full_bound _ f in
@@ -26,13 +20,10 @@ overflow_add-w c = let f : Full (length c.args.tree.now) = not_refused c.is_full
     let b = full_bound _ f in
     omega arith
 
-pub returns-then-w-to : goal.returns-then-w-to
-returns-then-w-to c = record { kept = refl; full = not_refused c.is_full.result c.if-not-is_full.false-raw c.is_full.ensures; some = omega (arith, c.if-from-to.false, c.if-to-from.false); past = c.if-w-to.true }
-
 pub change-requires : goal.change-requires
 change-requires c = let f : Full (length c.args.tree.now) = not_refused c.is_full.result c.if-not-is_full.false-raw c.is_full.ensures in
     let b = full_bound _ f in
-    record { a_lt_b = (omega (arith, c.if-from-to.false, c.if-to-from.false), c.if-w-to.false); tree_nonzero = (b.0, b.1, c.requires) }
+    record { a_lt_b = (omega arith, omega arith); tree_nonzero = (b.0, b.1, c.requires) }
 
 pub returns : goal.returns
-returns c = record { full = not_refused c.is_full.result c.if-not-is_full.false-raw c.is_full.ensures; some = omega (arith, c.if-from-to.false, c.if-to-from.false); within = c.if-w-to.false; change = c.change.ensures }
+returns c = record { full = not_refused c.is_full.result c.if-not-is_full.false-raw c.is_full.ensures; some = omega arith; within = omega arith; change = c.change.ensures }
