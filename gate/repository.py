@@ -43,6 +43,11 @@ class Repository:
         """The names of the crates. In crates.txt a static library has the word `staticlib` behind its name."""
         return [line.partition(":")[0].split()[0] for line in self.listed("crates.txt")]
 
+    def rests_on(self, crate):
+        """The names that crates.txt lists with a crate."""
+        lines = (line.partition(":") for line in self.listed("crates.txt"))
+        return [name for head, _, names in lines if head.split()[0] == crate for name in names.split()]
+
     def interfaces(self):
         return self.listed("interfaces.txt")
 

@@ -7,11 +7,15 @@ from repository import Result
 
 EDITS_PER_FUNCTION = 2
 
+# The toolchain's libraries that declare foreign functions, whose contracts are assumed.
+FOREIGN = ["libc", "os"]
+
 
 def assumes_nothing(repository):
-    """No crate's file declares an axiom, rests on one of antt's own, or declares a foreign function."""
+    """No crate's file declares an axiom, rests on one of antt's own, or declares a foreign function, and no crate names a
+    library that does."""
     for crate in repository.crates():
-        faults = []
+        faults = [f"rests on {name}" for name in repository.rests_on(crate) if name in FOREIGN]
         if any(re.search(r'\bextern\s+"C"\s*\{', text) for text in repository.sources(crate)):
             faults.append("declares a foreign function")
         for file in repository.files(crate, "*.antt"):

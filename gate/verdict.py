@@ -4,10 +4,8 @@ Each rule takes a repository and yields a result for each thing that it looks at
 import re
 
 from repository import Result
+from rules import FOREIGN
 from toolchain import SAID
-
-# The toolchain's libraries that declare foreign functions, whose contracts are assumed.
-FOREIGN = ["libc", "os"]
 
 # How `rt ci` begins what it says of an edit that the prover refused, before the first thing that was not proved.
 REFUSED = "refused, as it must be"
@@ -45,7 +43,8 @@ def rests_on_nothing(repository):
 
 def assumed(said, crate):
     """What the check of a crate assumed, as `rt ci` says. Of a crate that an earlier run proved on this machine it says
-    only that; there, too, the prover refused each axiom of the crate's own, and `rt` each foreign function."""
+    only that; there, too, the prover refused each axiom of the crate's own and `rt` each foreign function, and
+    `rules.assumes_nothing` reads of every crate which libraries it names."""
     if re.search(rf"(?m)^rt: {crate} is kept: ", said):
         return
     check = re.search(rf"(?ms)^== {crate}\n(.*?)^rt: {crate} proved$", said)
