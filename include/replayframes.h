@@ -15,7 +15,7 @@
  * THE FIVE MEMORIES
  *
  * Everything that the monitor knows stands in five memories that the caller lends to each call, always in this
- * order and by these names. A memory is a pointer and, behind it, a length that counts elements and not bytes
+ * order and by these names. A memory is a pointer followed by a length that counts elements and not bytes
  * (table and table_len).
  *
  *   table   uint64_t   8325                 the configuration
@@ -32,7 +32,7 @@
  *
  * rf_to_lend computes all five, with k = n. The pages of the allocator's region from k on are reserved: no machine
  * is ever given one, so the other memories may lie there. Frame i has the 512 words from words[512 * i] on, and its
- * host address is 4096 * i behind the region's host start.
+ * host address is the region's host start + 4096 * i.
  *
  *
  * WHAT THE CALLER MUST KEEP
@@ -59,8 +59,8 @@
  * WHAT A CALL ANSWERS
  *
  * Each function answers RF_DONE, which is 0, or a reason: the first that applies, in the order in which they are
- * named with it. A refusal leaves every word and byte of the five memories, and what stands behind the pointers for
- * values, except where a function says that it names a place. After rf_start the memories are sound, and every
+ * named with it. A refusal leaves every word and byte of the five memories, and what the pointers for values
+ * point to, except where a function says that it names a place. After rf_start the memories are sound, and every
  * function of the sections "Machines" and "Calls in bytes" keeps them so; RF_CORRUPT is then never answered there.
  */
 #ifndef REPLAYFRAMES_H
@@ -95,7 +95,7 @@ enum rf_code {
 
     /* The tree's words are no full tree. Lend 1, 17, 273, 4369, 69905, ... words, as rf_to_lend says. */
     RF_NOT_FULL = 1,
-    /* No full tree has so many frames. Ask for a power of 16, or from rf_to_lend for 2^52 frames at most. */
+    /* No full tree has that many frames. Ask for a power of 16, or from rf_to_lend for 2^52 frames at most. */
     RF_NO_SIZE = 2,
     /* There is no such frame: its number is the tree's number of frames or above. Ask for a lower one. */
     RF_OUTSIDE = 3,
@@ -122,7 +122,7 @@ enum rf_code {
     RF_NOT_AT_FRAME = 13,
     /* The frame is another's, or reserved. Whoever asks doesn't own it: refuse it that. */
     RF_NOT_YOURS = 14,
-    /* There are not so many frames. Lend a larger tree, or start with fewer. */
+    /* There are not that many frames. Lend a larger tree, or start with fewer. */
     RF_TOO_MANY = 15,
     /* A frame would end past 2^64 - 1. Choose a lower base, or fewer frames. */
     RF_TOO_HIGH = 16,
@@ -164,7 +164,7 @@ enum rf_code {
     RF_CONFIG_GUEST_SHARED = 42,
     /* A region has a host page of the allocator's region. Move one. Places: machine, region. */
     RF_CONFIG_POOL_SHARED = 43,
-    /* Bytes are left over behind the allocator's region. Drop them, or mend a count. Place: their offset. */
+    /* Bytes are left over after the allocator's region. Drop them, or mend a count. Place: their offset. */
     RF_CONFIG_LEFT_OVER = 44,
     /* The table has not 8325 words. Lend RF_TABLE_WORDS of them. */
     RF_NO_TABLE = 45,
@@ -258,7 +258,7 @@ enum rf_owner {
 /* ---- Configuration --------------------------------------------------------------------------------------------
  *
  * A configuration says which machines there may be, which regions each may be given, and where the allocator's
- * frames are. It is bytes, every number little-endian and without a sign, one field behind the other:
+ * frames are. It is bytes, every number little-endian and without a sign, one field after the other:
  *
  *   2 bytes   how many machines, at most 64; and for each of them:
  *     2         its number, which no other has
@@ -278,7 +278,7 @@ enum rf_owner {
 
 /* Whether bytes are a configuration that is right.
  *   first .. fourth   are written always: with RF_DONE the number of machines and 0, 0, 0; with a reason its places
- *                     in their order, and 0 behind them.
+ *                     in their order, and 0 after them.
  * Answers RF_DONE, or RF_CONFIG_TOO_SHORT to RF_CONFIG_LEFT_OVER for the first rule that is broken. */
 uint32_t rf_config_check(const uint8_t *bytes, size_t bytes_len, size_t *first, size_t *second, size_t *third,
                          size_t *fourth);
@@ -345,7 +345,7 @@ uint32_t rf_check(const uint64_t *table, size_t table_len, const uint64_t *zones
  *
  * Beside the answers that are named with it, each function answers RF_NO_MACHINE where no machine has the number,
  * RF_NOT_PRESENT where the machine is not there, unless that is what is asked, and RF_CORRUPT only where the memories
- * are not sound. RF_NO_KIND, RF_NO_SET and RF_NO_TABLE come before these, in that order, all others behind them. */
+ * are not sound. RF_NO_KIND, RF_NO_SET and RF_NO_TABLE come before these, in that order, all others after them. */
 
 /* Adds the machine, which then has no region and no frame.
  * Answers RF_DONE, RF_PRESENT. */
@@ -415,7 +415,7 @@ uint32_t rf_dealloc(const uint64_t *table, size_t table_len, const uint64_t *zon
                     size_t tree_len, uint8_t *owners, size_t owners_len, uint64_t *words, size_t words_len,
                     uint64_t number, size_t addr);
 
-/* The machine gives back frames one behind the other, all or none; they are cleared.
+/* The machine gives back consecutive frames, all or none; they are cleared.
  *   addr    the first one's host address
  *   count   how many, one at least
  * Answers RF_DONE, RF_BELOW, RF_NOT_AT_FRAME, RF_EMPTY, RF_OUTSIDE, RF_NOT_TAKEN, RF_NOT_YOURS. */
@@ -632,7 +632,7 @@ uint32_t rf_frames_check(const uint16_t *tree, size_t tree_len, const uint8_t *o
  * lies within the tree and was free, but need not be the lowest, and rf_bitmap_any and RF_NO_ROOM may be wrong; a
  * refusal leaves every word there too. */
 
-/* Writes how many words a tree of so many frames has to *words.
+/* Writes to *words how many words a tree of that many frames has.
  * Answers RF_DONE; RF_NO_SIZE where the frames are not 16, 256, 4096, ..., a power of 16 up to 16^15. */
 uint32_t rf_bitmap_words_for(size_t frames, size_t *words);
 
