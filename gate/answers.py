@@ -1,8 +1,9 @@
 """Every answer that a public function of an interface crate can give has an example, or a theorem that it is never given.
 
 The examples of the crate some_crate stand in a file SomeCrate.antt among the proofs of a crate whose name ends in _examples. An
-answer is named by the function and the variants on the way to it: `alloc_no_room`, `start_no_zones_wrong`. What stands for it
-is one of
+answer is named by the function and the variants on the way to it: `alloc_no_room`, `start_zones_wrong`. Of a Result, an error is
+named by its variants, or by its type if that is a struct, and the value by `ok`; a value that is a bool, an Option or an enum is
+named by `true` and `false`, by `some` and `none`, or by its variants. What stands for it is one of
 
     NAME          an example: the contract at that answer, met by words and arguments
     NAME_never    a theorem that the contract has no such answer, or none of sound memories
@@ -16,6 +17,10 @@ Each check takes a repository and yields a result for each thing that it looks a
 import re
 
 from repository import Result
+
+
+class Struct(str):
+    """The name of a struct that is an error: a law that has it speaks of Err."""
 
 
 def every_answer_has_its_example(repository):
@@ -61,7 +66,8 @@ def fault(laws, function, path, predicate):
 
 def lacking(law, *words):
     """The first of the words of which a law does not speak, as a fault."""
-    return next((f"what stands for it does not speak of {word}" for word in words if not speaks_of(law, word)), "")
+    spoken = ["Err" if isinstance(word, Struct) else word for word in words]
+    return next((f"what stands for it does not speak of {word}" for word in spoken if not speaks_of(law, word)), "")
 
 
 def speaks_of(law, word):
@@ -76,7 +82,7 @@ def snake(words):
 
 def answer_of(contract):
     """The type of a function's answer."""
-    found = re.search(r"->\s*(\w+)", contract)
+    found = re.search(r"->\s*(.*?)\s*(?=\b(?:ghost|requires|ensures|where)\b|$)", contract, re.S)
     return found.group(1) if found else ""
 
 
@@ -89,26 +95,46 @@ def predicate_of(contract):
 
 def answers(repository, crate, kind):
     """The ways to an answer: the variants, from the outside in."""
-    if kind == "bool":
+    name, given = parts(kind)
+    if name == "bool":
         return [("true",), ("false",)]
-    home, variants = declared(repository, crate, kind)
+    if name == "Option":
+        return [("Some",), ("None",)]
+    if name == "Result":
+        value = answers(repository, crate, given[0])
+        return [way or ("Ok",) for way in value] + [way or (Struct(parts(given[1])[0]),) for way in answers(repository, crate, given[1])]
+    home, variants, parameters = declared(repository, crate, name)
     if variants is None:
         return [()]
+    means = dict(zip(parameters, given))
     ways = []
     for variant, fields in variants:
-        inner = [way for field in fields for way in answers(repository, home, field) if way]
+        inner = [way for field in fields for way in answers(repository, crate if field in means else home, means.get(field, field)) if way]
         ways += [(variant, *way) for way in inner] or [(variant,)]
     return ways
 
 
+def parts(kind):
+    """A type's name without its path, and the types that it is given: `Result<usize, a::NotFull>` is `Result` of two."""
+    name, _, inside = kind.strip().partition("<")
+    given, depth = [""], 0
+    for letter in inside.rpartition(">")[0]:
+        depth += {"<": 1, "(": 1, ">": -1, ")": -1}.get(letter, 0)
+        if letter == "," and depth == 0:
+            given.append("")
+        else:
+            given[-1] += letter
+    return name.rpartition("::")[2].strip(), [it.strip() for it in given if it.strip()]
+
+
 def declared(repository, crate, kind):
-    """Where an enum is declared that a crate's source names, and its variants, each with the types of its fields."""
+    """Where an enum is declared that a crate's source names, its variants, each with the types of its fields, and its parameters."""
     text = "\n".join(repository.sources(crate))
-    found = re.search(rf"\bpub enum {kind} \{{(.*?)\n\}}", text, re.S)
+    found = re.search(rf"\bpub enum {kind}(?:<(.*?)>)? \{{(.*?)\n\}}", text, re.S)
     if found:
-        return crate, variants_in(found.group(1))
+        return crate, variants_in(found.group(2)), re.findall(r"\w+", found.group(1) or "")
     other = re.search(rf"\buse (\w+)::(?:{kind}|\{{[^}}]*\b{kind}\b[^}}]*\}});", text)
-    return declared(repository, other.group(1), kind) if other else (crate, None)
+    return declared(repository, other.group(1), kind) if other and kind else (crate, None, [])
 
 
 def variants_in(body):

@@ -35,15 +35,19 @@ ENUMS = {
 
 # The other numbers of the header, and where the sources have them: a crate, and the text around the number.
 PLACES = {
+    # (what stands where a reason has no fault)
+    "enum rf_fault": {
+        "RF_FAULT_NOTHING": ("config_codes", r"Reason::UnknownKind\(m, i\) => together\(m, i, (\d+), 0\)"),
+    },
     "enum rf_set": {
-        "RF_SET_PROCESSORS": ("machine_codes", r"if n == (\d+) \{\s*return Which::Processors;"),
+        "RF_SET_PROCESSORS": ("machine_codes", r"\b(\d+) => Which::Processors,"),
         "RF_SET_DEVICES": ("replayframes_machines", r"if which > (\d+) \{\s*return RF_NO_SET;"),
     },
     "#define": {
         "RF_TABLE_WORDS": ("lending", r"\btable: (\d+),"),
         "RF_FRAME_WORDS": ("lending", r"\bwords: (\d+) \* frames,"),
         "RF_PAGE_BYTES": ("address", r"\baddr / (\d+)\b"),
-        "RF_REQUEST_BYTES": ("call_bytes", r"\bif len != (\d+) \{"),
+        "RF_REQUEST_BYTES": ("call_bytes", r"\blen == (\d+) && is_request"),
     },
 }
 
@@ -122,7 +126,7 @@ def source_numbers(repository):
     found = {group: placed(repository, places) for group, places in PLACES.items()}
     for enum, places in ENUMS.items():
         pairs = [pair for place in places for pair in numbers(repository, *place).items()]
-        found[f"enum {enum}"] = dict(pairs)
+        found[f"enum {enum}"] = {**found.get(f"enum {enum}", {}), **dict(pairs)}
     return found
 
 

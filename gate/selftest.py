@@ -57,6 +57,7 @@ GOOD = {
         '#[unsafe(no_mangle)]\npub extern "C" fn two(t: &[u16], o: &mut [u64], a: u8, v: &mut usize) -> u8 {\n    own(a)\n}\n\n'
         "fn own(a: u8) -> u8\n    requires { a < 9 }\n{\n    a\n}\n"
     ),
+    "crates/open/src/kept.rt": "pub enum Kept<E> {\n    All,\n    No(E),\n}\n",
     "crates/open_examples/proofs/Lib.antt": "pub mod Open\n",
     "crates/open_examples/proofs/Open.antt": (
         "pub one_yes_well : OneSays (Said.Yes How.Well)\none_yes_well = tt\n\npub one_no_each : (w : Why)\n    → OneSays (Said.No w)\none_no_each w = tt\n\n"
@@ -69,15 +70,16 @@ GOOD = {
     "crates/open/must-fail/two.b.edit": "file: src/lib.rt\nold: own(a)\nnew: own(1)\n",
     "crates/codes/src/lib.rt": "// It is done.\npub const RF_DONE: u32 = 0;\n",
     "crates/config_codes/src/lib.rt": (
+        "fn four(r: Reason) -> Four {\n    match r {\n        Reason::UnknownKind(m, i) => together(m, i, 0, 0),\n    }\n}\n\n"
         "fn fault_number(f: Fault) -> usize {\n    match f {\n        Fault::NoPage => 1,\n    }\n}\n\n"
         "pub fn code_of(r: Reason) -> u32 {\n    match r {\n        Reason::TooShort(_) => 32,\n    }\n}\n"
     ),
     "crates/lending/src/lib.rt": "fn all() -> Sizes {\n    Sizes { table: 7, tree: 1 }\n}\n",
-    "crates/machine_codes/src/lib.rt": "fn which_of(n: u64) -> Which {\n    if n == 0 {\n        return Which::Processors;\n    }\n}\n",
+    "crates/machine_codes/src/lib.rt": "fn which_of(n: u64) -> Which {\n    match n {\n        0 => Which::Processors,\n    }\n}\n",
     "include/replayframes.h": (
         "/* uint8_t gone(void); */\n/* How many words. */\n#define RF_TABLE_WORDS 7\n"
         "enum rf_code {\n    /* Place: RF_GONE = 9. */\n    RF_DONE = 0,\n    RF_CONFIG_TOO_SHORT = 32\n};\n"
-        "enum rf_fault { RF_FAULT_NO_PAGE = 1 };\nenum rf_set { RF_SET_PROCESSORS = 0 };\n"
+        "enum rf_fault { RF_FAULT_NOTHING = 0, RF_FAULT_NO_PAGE = 1 };\nenum rf_set { RF_SET_PROCESSORS = 0 };\n"
         "uint8_t two(const uint16_t *t, size_t t_len, uint64_t *o,\n            size_t o_len, uint8_t a, size_t *v);\n"
     ),
     "crates/prints/src/main.rt": "fn main() {}\n",
@@ -246,6 +248,16 @@ BAD = [
     ]
 ]
 
+# The ways to an answer of a type, as a crate of the good repository names it.
+WAYS = [
+    ("usize", [()]),
+    ("bool", [("true",), ("false",)]),
+    ("Option<(usize, usize)>", [("Some",), ("None",)]),
+    ("Result<(), Why>", [("Ok",), ("TooMany",), ("TooFew",)]),
+    ("Result<bool, inner::Gone>", [("true",), ("false",), ("Gone",)]),
+    ("Result<Option<usize>, Kept<How>>", [("Some",), ("None",), ("All",), ("No", "Well")]),
+]
+
 # How `rt ci` ends and what it said, and how many passed and failed by that.
 COUNTS = [
     (0, "rt: ok; handles allowed: none; must-fail edits: 1 refused; every proof was done\n2 passed, 0 failed\n", 2, 0),
@@ -287,8 +299,8 @@ ANSWERS = ["", "words: 1", "# a title", "insert 5 n: done", "alloc: frame 5", "a
 ANSWERS += ["dealloc m: outside", "test n-1: free", "put 0 0: done", "any: no", "check: sound"]
 
 
-def faults(rule, files):
-    """What the rule finds wrong with a repository of these files."""
+def within(files, asked):
+    """What is answered of a repository of these files."""
     with tempfile.TemporaryDirectory() as folder:
         for file, text in files.items():
             if text is None:
@@ -296,7 +308,12 @@ def faults(rule, files):
             path = Path(folder) / file
             path.parent.mkdir(parents=True, exist_ok=True)
             path.write_text(text)
-        return [result.fault for result in rule(Repository(folder)) if result.fault]
+        return asked(Repository(folder))
+
+
+def faults(rule, files):
+    """What the rule finds wrong with a repository of these files."""
+    return within(files, lambda repository: [result.fault for result in rule(repository) if result.fault])
 
 
 def results(_):
@@ -307,6 +324,9 @@ def results(_):
     for rule, file, text, said in BAD:
         found = faults(rule, {**GOOD, file: text})
         yield Result(f"{rule.__name__} finds: {said}", "" if any(said in fault for fault in found) else f"it found {found}")
+    for kind, ways in WAYS:
+        found = within(GOOD, lambda repository: answers.answers(repository, "open", kind))
+        yield Result(f"the ways to {kind}", "" if found == ways else f"it found {found}")
     for status, said, passed, failed in COUNTS:
         counted = [bool(result.fault) for result in toolchain.counted(status, said)]
         yield Result(f"status {status} after {said!r}", "" if counted == [False] * passed + [True] * failed else f"counts as {counted}")

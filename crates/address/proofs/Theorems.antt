@@ -5,6 +5,7 @@ use Prim.Native.Nat.{ℕ, ◌+◌, ◌-◌, ◌*◌, ◌/◌, ◌%◌, ◌^◌, 
 use native.Mathlib.Omega.{arith}
 use borrow.Author.Tests.{eq-eqb, ne_eqb, lt-ltb, le-ltb}
 use lib.Dec.{eqb, ltb}
+use Rattle.std.specs.Prelude.{Result, Ok, Err}
 use Rattle.base.specs.Choices.{pick}
 use Rattle.address.specs.Pages.{InPages, Share, Contains}
 use Rattle.address.specs.Regions.{Valid, ValiditySays, host_of}
@@ -97,30 +98,30 @@ translates_pages m =
 
 -- ---- validity
 
--- the first condition that a region breaks, computed
-first_fault : ℕ → ℕ → ℕ → Fault
+-- the first condition that a region breaks, if it breaks one, computed
+first_fault : ℕ → ℕ → ℕ → Result (Unit {0}) Fault
 first_fault guest host pages =
-    pick (eqb pages 0) Fault.NoPage
+    pick (eqb pages 0) (Err Fault.NoPage)
     (pick (eqb (guest % 4096) 0)
     (pick (eqb (host % 4096) 0)
     (pick (ltb (guest + 4096 * pages) 18446744073709551616)
-    (pick (ltb (host + 4096 * pages) 18446744073709551616) Fault.Nothing Fault.HostEnd) Fault.GuestEnd) Fault.HostStart) Fault.GuestStart)
+    (pick (ltb (host + 4096 * pages) 18446744073709551616) (Ok tt) (Err Fault.HostEnd)) (Err Fault.GuestEnd)) (Err Fault.HostStart)) (Err Fault.GuestStart))
 
 not_below : (a b : ℕ) → (a < b → ⊥) → b ≤ a
 not_below a b n = omega (arith, n)
 
-fault_is : (guest host pages : ℕ) (f : Fault) → ValiditySays guest host pages f → first_fault guest host pages ≡ f
+fault_is : (guest host pages : ℕ) (r : Result (Unit {0}) Fault) → ValiditySays guest host pages r → first_fault guest host pages ≡ r
 unfolding first_fault
-fault_is g h p Fault.Nothing v =
+fault_is g h p (Ok tt) v =
     simp (ne_eqb p 0 (λ e. omega arith), eq-eqb (g % 4096) 0 v.on.guest_start, eq-eqb (h % 4096) 0 v.on.host_start, lt-ltb (g + 4096 * p) 18446744073709551616 v.guest_end, lt-ltb (h + 4096 * p) 18446744073709551616 v.host_end)
-fault_is g h p Fault.NoPage v = simp (eq-eqb p 0 v)
-fault_is g h p Fault.GuestStart v = simp (ne_eqb p 0 (λ e. omega arith), ne_eqb (g % 4096) 0 v.1)
-fault_is g h p Fault.HostStart v = simp (ne_eqb p 0 (λ e. omega arith), eq-eqb (g % 4096) 0 v.1, ne_eqb (h % 4096) 0 v.2)
-fault_is g h p Fault.GuestEnd v =
+fault_is g h p (Err Fault.NoPage) v = simp (eq-eqb p 0 v)
+fault_is g h p (Err Fault.GuestStart) v = simp (ne_eqb p 0 (λ e. omega arith), ne_eqb (g % 4096) 0 v.1)
+fault_is g h p (Err Fault.HostStart) v = simp (ne_eqb p 0 (λ e. omega arith), eq-eqb (g % 4096) 0 v.1, ne_eqb (h % 4096) 0 v.2)
+fault_is g h p (Err Fault.GuestEnd) v =
     simp (ne_eqb p 0 (λ e. omega arith), eq-eqb (g % 4096) 0 v.0.guest_start, eq-eqb (h % 4096) 0 v.0.host_start, le-ltb (g + 4096 * p) 18446744073709551616 (not_below _ _ v.1))
-fault_is g h p Fault.HostEnd v =
+fault_is g h p (Err Fault.HostEnd) v =
     simp (ne_eqb p 0 (λ e. omega arith), eq-eqb (g % 4096) 0 v.0.guest_start, eq-eqb (h % 4096) 0 v.0.host_start, lt-ltb (g + 4096 * p) 18446744073709551616 v.1, le-ltb (h + 4096 * p) 18446744073709551616 (not_below _ _ v.2))
 
--- what is said of a region is said of one fault
-pub fault_once : (guest host pages : ℕ) (f f' : Fault) → ValiditySays guest host pages f → ValiditySays guest host pages f' → f ≡ f'
-fault_once g h p f f' x y = sym (fault_is g h p f x) ∙ fault_is g h p f' y
+-- what is said of a region is said of one answer
+pub fault_once : (guest host pages : ℕ) (r r' : Result (Unit {0}) Fault) → ValiditySays guest host pages r → ValiditySays guest host pages r' → r ≡ r'
+fault_once g h p r r' x y = sym (fault_is g h p r x) ∙ fault_is g h p r' y

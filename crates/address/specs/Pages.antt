@@ -1,7 +1,6 @@
 -- Ranges of pages, as sets of page numbers and of addresses. A page has 4096 bytes, and page k the addresses from 4096 k on.
 -- Assumes nothing.
-use Rattle.std.specs.Prelude.{◌≡◌, ℕ, ◌+◌, ◌*◌, ◌/◌, ◌^◌, ◌≤◌, ◌<◌}
-use Rattle.address.specs.declared.End.{End}
+use Rattle.std.specs.Prelude.{◌≡◌, ℕ, ◌+◌, ◌*◌, ◌/◌, ◌^◌, ◌≤◌, ◌<◌, Option, Some, None}
 
 -- addr is a multiple of size
 pub record Multiple (size addr : ℕ) : Type 0 where
@@ -29,6 +28,6 @@ abbrev pub Fits : ℕ → ℕ → Type 0
 Fits start pages = start + 4096 * pages < 2 ^ 64
 
 -- the address behind the range, or that it passes 2^64 - 1
-abbrev pub EndSays : ℕ → ℕ → End → Type 0
-EndSays start pages (End.At e) = Fits start pages × (e ≡ start + 4096 * pages)
-EndSays start pages End.Beyond = Fits start pages → ⊥
+abbrev pub EndSays : ℕ → ℕ → Option ℕ → Type 0
+EndSays start pages (Some e) = Fits start pages × (e ≡ start + 4096 * pages)
+EndSays start pages None = Fits start pages → ⊥

@@ -13,7 +13,7 @@ ghost use Rattle.address.specs.Regions.{Valid, ValiditySays, TranslateSays};
 const TOP: u64 = 18446744073709551615;
 
 // What a region is for.
-#[derive(Clone, Copy)]
+#[derive(Clone, Copy, Debug, PartialEq, Eq)]
 pub enum Kind {
     // Memory of one machine.
     Ordinary,
@@ -24,7 +24,7 @@ pub enum Kind {
 }
 
 // `pages` pages of guest memory from the address `guest` on, which are the host's pages from `host` on.
-#[derive(Clone, Copy)]
+#[derive(Clone, Copy, Debug, PartialEq, Eq)]
 pub struct Region {
     pub guest: u64,
     pub host: u64,
@@ -33,9 +33,8 @@ pub struct Region {
 }
 
 // The first condition of a valid region that a region breaks.
-#[derive(Clone, Copy)]
+#[derive(Clone, Copy, Debug, PartialEq, Eq)]
 pub enum Fault {
-    Nothing,
     // It has no page.
     NoPage,
     // Its guest start is no multiple of a page.
@@ -48,18 +47,9 @@ pub enum Fault {
     HostEnd,
 }
 
-// The address behind a range.
-#[derive(Drop)]
-pub enum End {
-    At(u64),
-    // It passes 2^64 - 1.
-    Beyond,
-}
-
-// The host address that a guest address stands for.
-#[derive(Drop)]
-pub enum Translated {
-    Host(u64),
+// Why a guest address stands for no host address.
+#[derive(Clone, Copy, Debug, PartialEq, Eq)]
+pub enum Untranslated {
     // The region does not have the guest address.
     Outside,
     // The host address passes 2^64 - 1: the region is not valid.
@@ -77,85 +67,64 @@ pub fn page_of(addr: u64) -> u64
 pub fn aligned(addr: u64, size: u64) -> bool
     ensures { Says result (Multiple size addr) }
 {
-    if size == 0 {
-        return is_zero(addr);
-    }
-    is_zero(addr % size)
-}
-
-// Whether a number is 0.
-fn is_zero(x: u64) -> bool
-    ensures { Says result (x ≡ 0) }
-{
-    if x == 0 { true } else { false }
+    addr.is_multiple_of(size)
 }
 
 // Whether the end of a range is at most 2^64 - 1.
 fn fits(start: u64, pages: u64) -> bool
     ensures { Says result (Fits start pages) }
 {
-    if pages <= (TOP - start) / 4096 {
-        true
-    } else {
-        false
-    }
+    pages <= (TOP - start) / 4096
 }
 
-// The first condition of a valid region that r breaks.
-pub fn validity(r: Region) -> Fault
+// The first condition of a valid region that r breaks, if it breaks one.
+pub fn validity(r: Region) -> Result<(), Fault>
     ensures { ValiditySays r.guest r.host r.pages result }
 {
     if r.pages == 0 {
-        return Fault::NoPage;
+        return Err(Fault::NoPage);
     }
     if r.guest % 4096 != 0 {
-        return Fault::GuestStart;
+        return Err(Fault::GuestStart);
     }
     if r.host % 4096 != 0 {
-        return Fault::HostStart;
+        return Err(Fault::HostStart);
     }
     if !fits(r.guest, r.pages) {
-        return Fault::GuestEnd;
+        return Err(Fault::GuestEnd);
     }
     if !fits(r.host, r.pages) {
-        return Fault::HostEnd;
+        return Err(Fault::HostEnd);
     }
-    Fault::Nothing
+    Ok(())
 }
 
 // Whether r is valid.
 pub fn valid(r: Region) -> bool
     ensures { Says result (Valid r.guest r.host r.pages) }
 {
-    match validity(r) {
-        Fault::Nothing => true,
-        Fault::NoPage => false,
-        Fault::GuestStart => false,
-        Fault::HostStart => false,
-        Fault::GuestEnd => false,
-        Fault::HostEnd => false,
-    }
+    validity(r).is_ok()
 }
 
-// The address behind a range of pages.
-fn end_of(start: u64, pages: u64) -> End
+// The address behind a range of pages. None: it passes 2^64 - 1.
+fn end_of(start: u64, pages: u64) -> Option<u64>
     ensures { EndSays start pages result }
 {
     if fits(start, pages) {
-        return End::At(start + 4096 * pages);
+        return Some(start + 4096 * pages);
     }
-    End::Beyond
+    None
 }
 
-// The guest address behind r.
-pub fn vend(r: Region) -> End
+// The guest address behind r. None: it passes 2^64 - 1.
+pub fn vend(r: Region) -> Option<u64>
     ensures { EndSays r.guest r.pages result }
 {
     end_of(r.guest, r.pages)
 }
 
-// The host address behind r.
-pub fn pend(r: Region) -> End
+// The host address behind r. None: it passes 2^64 - 1.
+pub fn pend(r: Region) -> Option<u64>
     ensures { EndSays r.host r.pages result }
 {
     end_of(r.host, r.pages)
@@ -167,16 +136,10 @@ fn share(start1: u64, pages1: u64, start2: u64, pages2: u64) -> bool
 {
     let a = start1 / 4096;
     let b = start2 / 4096;
-    if pages1 == 0 {
-        return false;
-    }
-    if pages2 == 0 {
-        return false;
-    }
     if a <= b {
-        if b - a < pages1 { true } else { false }
+        0 < pages2 && b - a < pages1
     } else {
-        if a - b < pages2 { true } else { false }
+        0 < pages1 && a - b < pages2
     }
 }
 
@@ -198,29 +161,17 @@ pub fn overlaps_pmem(a: Region, b: Region) -> bool
 pub fn contains(r: Region, addr: u64) -> bool
     ensures { Says result (Contains r.guest r.pages addr) }
 {
-    if addr < r.guest {
-        return false;
-    }
-    if (addr - r.guest) / 4096 < r.pages {
-        true
-    } else {
-        false
-    }
+    r.guest <= addr && (addr - r.guest) / 4096 < r.pages
 }
 
 // The host address that a guest address stands for.
-pub fn translate(r: Region, addr: u64) -> Translated
+pub fn translate(r: Region, addr: u64) -> Result<u64, Untranslated>
     ensures { TranslateSays r.guest r.host r.pages addr result }
 {
-    if addr < r.guest {
-        return Translated::Outside;
+    if !contains(r, addr) {
+        return Err(Untranslated::Outside);
     }
-    let off = addr - r.guest;
-    if r.pages <= off / 4096 {
-        return Translated::Outside;
-    }
-    if TOP - r.host < off {
-        return Translated::Beyond;
-    }
-    Translated::Host(r.host + off)
+    r.host
+        .checked_add(addr - r.guest)
+        .ok_or(Untranslated::Beyond)
 }

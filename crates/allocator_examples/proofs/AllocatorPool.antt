@@ -5,6 +5,7 @@ use Prim.Native.Nat.{ℕ, ◌%◌, ◌≤◌, ◌<◌}
 use native.Mathlib.Decide.{dec_lt}
 use native.Mathlib.Omega.{arith}
 use lib.Dec.{lit<, lit≤}
+use Rattle.std.specs.Prelude.{Ok, Err}
 use Rattle.base.specs.Ranges as ranges
 use Rattle.bitmap_tree.specs.Tree as tree
 use Rattle.bitmap_tree.specs.Tree.{cap}
@@ -21,12 +22,11 @@ use Rattle.claims.specs.declared.NotChanged.{NotChanged}
 use Rattle.claims.specs.Fits.{Fits}
 use Rattle.claims.specs.Returns.{Range, FirstOwned, Changeable}
 use Rattle.allocator_pool.specs.declared.FrameState.{FrameState}
-use Rattle.allocator_pool.specs.declared.Counted.{Counted}
-use Rattle.allocator_pool.specs.declared.Checked.{Checked}
-use Rattle.allocator_pool.specs.declared.Started.{Started}
-use Rattle.allocator_pool.specs.declared.Inserted.{Inserted}
-use Rattle.allocator_pool.specs.declared.Removed.{Removed}
-use Rattle.allocator_pool.specs.declared.Released.{Released}
+use Rattle.allocator_pool.specs.declared.NoState.{NoState}
+use Rattle.allocator_pool.specs.declared.BadClient.{BadClient}
+use Rattle.allocator_pool.specs.declared.Unaccounted.{Unaccounted}
+use Rattle.allocator_pool.specs.declared.NotStarted.{NotStarted}
+use Rattle.allocator_pool.specs.declared.NotInserted.{NotInserted}
 use Rattle.allocator_pool.specs.Looks.{OwnerSays, CountSays, CheckSays}
 use Rattle.allocator_pool.specs.Changes.{InitSays, InsertSays, RemoveSays, ReleaseSays}
 use Rattle.allocator_pool.proofs.Writes as writes
@@ -79,54 +79,54 @@ first_owned =
 
 -- ---- owner
 
-pub owner_free : OwnerSays 65536 one nobody 0 FrameState.Free
+pub owner_free : OwnerSays 65536 one nobody 0 (Ok FrameState.Free)
 owner_free = record { fits = free_fits; within = lit< tt; is = memories.first_free }
 
-pub owner_reserved : OwnerSays 65536 one nobody 1 FrameState.Reserved
+pub owner_reserved : OwnerSays 65536 one nobody 1 (Ok FrameState.Reserved)
 owner_reserved = record { fits = free_fits; within = lit< tt; is = memories.behind_free 1 (lit< tt) }
 
-pub owner_client : OwnerSays 65536 taken held 0 (FrameState.Client 0)
+pub owner_client : OwnerSays 65536 taken held 0 (Ok (FrameState.Client 0))
 owner_client = record { fits = own_fits; within = lit< tt; is = memories.first_owned }
 
-pub owner_outside : OwnerSays 65536 one nobody 16 FrameState.Outside
+pub owner_outside : OwnerSays 65536 one nobody 16 (Err NoState.Outside)
 owner_outside = (free_fits, lit≤ tt)
 
-pub owner_unfit_not_full : OwnerSays 65536 nothing nobody 0 (FrameState.Unfit Unfit.NotFull)
+pub owner_unfit_not_full : OwnerSays 65536 nothing nobody 0 (Err (NoState.Unfit Unfit.NotFull))
 owner_unfit_not_full = memories.not_full_lem
 
-pub owner_unfit_unmatched : OwnerSays 65536 one few 0 (FrameState.Unfit Unfit.Unmatched)
+pub owner_unfit_unmatched : OwnerSays 65536 one few 0 (Err (NoState.Unfit Unfit.Unmatched))
 owner_unfit_unmatched = memories.unmatched
 
-pub owner_unfit_bad_base : OwnerSays 1 one nobody 0 (FrameState.Unfit Unfit.BadBase)
+pub owner_unfit_bad_base : OwnerSays 1 one nobody 0 (Err (NoState.Unfit Unfit.BadBase))
 owner_unfit_bad_base = memories.bad_base_lem
 
 -- ---- owned_count
 
-pub owned_count_frames : CountSays 65536 taken held 0 (Counted.Frames 1)
+pub owned_count_ok : CountSays 65536 taken held 0 (Ok 1)
 unfolding ranges.how_many states.state tree.node_bit
-owned_count_frames = (memories.known 65536 taken held 0 accounted_owned (lit< tt), refl)
+owned_count_ok = (memories.known 65536 taken held 0 accounted_owned (lit< tt), refl)
 
-pub owned_count_no_client : CountSays 65536 taken held 64 Counted.NoClient
+pub owned_count_no_client : CountSays 65536 taken held 64 (Err BadClient.NoClient)
 owned_count_no_client = (own_fits, lit≤ tt)
 
-pub owned_count_unfit_not_full : CountSays 65536 nothing nobody 0 (Counted.Unfit Unfit.NotFull)
+pub owned_count_unfit_not_full : CountSays 65536 nothing nobody 0 (Err (BadClient.Unfit Unfit.NotFull))
 owned_count_unfit_not_full = memories.not_full_lem
 
-pub owned_count_unfit_unmatched : CountSays 65536 one few 0 (Counted.Unfit Unfit.Unmatched)
+pub owned_count_unfit_unmatched : CountSays 65536 one few 0 (Err (BadClient.Unfit Unfit.Unmatched))
 owned_count_unfit_unmatched = memories.unmatched
 
-pub owned_count_unfit_bad_base : CountSays 1 one nobody 0 (Counted.Unfit Unfit.BadBase)
+pub owned_count_unfit_bad_base : CountSays 1 one nobody 0 (Err (BadClient.Unfit Unfit.BadBase))
 owned_count_unfit_bad_base = memories.bad_base_lem
 
 -- ---- check
 
-pub check_accounted : CheckSays 65536 taken held Checked.Accounted
-check_accounted = accounted_owned
+pub check_ok : CheckSays 65536 taken held (Ok tt)
+check_ok = accounted_owned
 
-pub check_lie : CheckSays 65536 lying nobody_of_many (Checked.Lie 0)
+pub check_lie : CheckSays 65536 lying nobody_of_many (Err (Unaccounted.Lie 0))
 check_lie = (memories.fits_lying, memories.lowest_lie)
 
-pub check_wrong : CheckSays 65536 taken strange (Checked.Wrong 0)
+pub check_wrong : CheckSays 65536 taken strange (Err (Unaccounted.Wrong 0))
 check_wrong =
     record {
       fits = memories.fits_strange;
@@ -135,20 +135,20 @@ check_wrong =
       stops = record { low = lit≤ tt; high = lit≤ tt; before = λ k p q. absurd (omega arith); fails = λ _. memories.wrong };
     }
 
-pub check_unfit_not_full : CheckSays 65536 nothing nobody (Checked.Unfit Unfit.NotFull)
+pub check_unfit_not_full : CheckSays 65536 nothing nobody (Err (Unaccounted.Unfit Unfit.NotFull))
 check_unfit_not_full = memories.not_full_lem
 
-pub check_unfit_unmatched : CheckSays 65536 one few (Checked.Unfit Unfit.Unmatched)
+pub check_unfit_unmatched : CheckSays 65536 one few (Err (Unaccounted.Unfit Unfit.Unmatched))
 check_unfit_unmatched = memories.unmatched
 
-pub check_unfit_bad_base : CheckSays 1 one nobody (Checked.Unfit Unfit.BadBase)
+pub check_unfit_bad_base : CheckSays 1 one nobody (Err (Unaccounted.Unfit Unfit.BadBase))
 check_unfit_bad_base = memories.bad_base_lem
 
 -- ---- init
 
 -- one frame is to be free, whoever owned it
-pub init_done : InitSays 65536 taken held 1 one nobody Started.Done
-init_done = record { fits = own_fits; begun = begun; accounted = accounted_free }
+pub init_ok : InitSays 65536 taken held 1 one nobody (Ok tt)
+init_ok = record { fits = own_fits; begun = begun; accounted = accounted_free }
   where
     begun : passes.Begun taken held 1 one nobody
     begun =
@@ -161,80 +161,80 @@ init_done = record { fits = own_fits; begun = begun; accounted = accounted_free 
         }
 
 -- seventeen frames of sixteen
-pub init_too_many : InitSays 65536 taken held 17 taken held Started.TooMany
+pub init_too_many : InitSays 65536 taken held 17 taken held (Err NotStarted.TooMany)
 init_too_many = (kept _ _, own_fits, lit< tt)
 
-pub init_too_high : InitSays high taken nobody 1 taken nobody Started.TooHigh
+pub init_too_high : InitSays high taken nobody 1 taken nobody (Err NotStarted.TooHigh)
 init_too_high = (kept _ _, reserved_fits high refl, lit≤ tt, lit≤ tt)
 
-pub init_unfit_not_full : InitSays 65536 nothing nobody 1 nothing nobody (Started.Unfit Unfit.NotFull)
+pub init_unfit_not_full : InitSays 65536 nothing nobody 1 nothing nobody (Err (NotStarted.Unfit Unfit.NotFull))
 init_unfit_not_full = (kept _ _, memories.not_full_lem)
 
-pub init_unfit_unmatched : InitSays 65536 one few 1 one few (Started.Unfit Unfit.Unmatched)
+pub init_unfit_unmatched : InitSays 65536 one few 1 one few (Err (NotStarted.Unfit Unfit.Unmatched))
 init_unfit_unmatched = (kept _ _, memories.unmatched)
 
-pub init_unfit_bad_base : InitSays 1 one nobody 1 one nobody (Started.Unfit Unfit.BadBase)
+pub init_unfit_bad_base : InitSays 1 one nobody 1 one nobody (Err (NotStarted.Unfit Unfit.BadBase))
 init_unfit_bad_base = (kept _ _, memories.bad_base_lem)
 
 -- ---- insert
 
-pub insert_done : InsertSays 65536 taken nobody 0 1 one nobody Inserted.Done
-insert_done = writes.opened 65536 taken nobody 0 1 one nobody (reserved_changeable 65536 refl) (lit< tt) memories.opened
+pub insert_ok : InsertSays 65536 taken nobody 0 1 one nobody (Ok tt)
+insert_ok = writes.opened 65536 taken nobody 0 1 one nobody (reserved_changeable 65536 refl) (lit< tt) memories.opened
 
-pub insert_too_high : InsertSays high taken nobody 0 1 taken nobody Inserted.TooHigh
+pub insert_too_high : InsertSays high taken nobody 0 1 taken nobody (Err NotInserted.TooHigh)
 insert_too_high = (kept _ _, reserved_changeable high refl, lit≤ tt)
 
-pub insert_no_unfit_not_full : InsertSays 65536 nothing nobody 0 1 nothing nobody (Inserted.No (NotChanged.Unfit Unfit.NotFull))
+pub insert_no_unfit_not_full : InsertSays 65536 nothing nobody 0 1 nothing nobody (Err (NotInserted.No (NotChanged.Unfit Unfit.NotFull)))
 insert_no_unfit_not_full = (kept _ _, memories.not_full_lem)
 
-pub insert_no_unfit_unmatched : InsertSays 65536 one few 0 1 one few (Inserted.No (NotChanged.Unfit Unfit.Unmatched))
+pub insert_no_unfit_unmatched : InsertSays 65536 one few 0 1 one few (Err (NotInserted.No (NotChanged.Unfit Unfit.Unmatched)))
 insert_no_unfit_unmatched = (kept _ _, memories.unmatched)
 
-pub insert_no_unfit_bad_base : InsertSays 1 one nobody 0 1 one nobody (Inserted.No (NotChanged.Unfit Unfit.BadBase))
+pub insert_no_unfit_bad_base : InsertSays 1 one nobody 0 1 one nobody (Err (NotInserted.No (NotChanged.Unfit Unfit.BadBase)))
 insert_no_unfit_bad_base = (kept _ _, memories.bad_base_lem)
 
-pub insert_no_empty : InsertSays 65536 one nobody 5 5 one nobody (Inserted.No NotChanged.Empty)
+pub insert_no_empty : InsertSays 65536 one nobody 5 5 one nobody (Err (NotInserted.No NotChanged.Empty))
 insert_no_empty = (kept _ _, (free_fits, refl))
 
-pub insert_no_reversed : InsertSays 65536 one nobody 6 5 one nobody (Inserted.No NotChanged.Reversed)
+pub insert_no_reversed : InsertSays 65536 one nobody 6 5 one nobody (Err (NotInserted.No NotChanged.Reversed))
 insert_no_reversed = (kept _ _, (free_fits, lit< tt))
 
-pub insert_no_outside : InsertSays 65536 one nobody 0 17 one nobody (Inserted.No NotChanged.Outside)
+pub insert_no_outside : InsertSays 65536 one nobody 0 17 one nobody (Err (NotInserted.No NotChanged.Outside))
 insert_no_outside = (kept _ _, (free_fits, lit< tt, lit< tt))
 
-pub insert_no_taken : InsertSays 65536 taken held 0 1 taken held (Inserted.No (NotChanged.Taken 0))
+pub insert_no_taken : InsertSays 65536 taken held 0 1 taken held (Err (NotInserted.No (NotChanged.Taken 0)))
 insert_no_taken = (kept _ _, first_owned)
 
 -- ---- remove
 
-pub remove_done : RemoveSays 65536 one nobody 0 1 taken nobody Removed.Done
-remove_done = writes.closed 65536 one nobody 0 1 taken nobody free_changeable memories.closed
+pub remove_ok : RemoveSays 65536 one nobody 0 1 taken nobody (Ok tt)
+remove_ok = writes.closed 65536 one nobody 0 1 taken nobody free_changeable memories.closed
 
-pub remove_no_unfit_not_full : RemoveSays 65536 nothing nobody 0 1 nothing nobody (Removed.No (NotChanged.Unfit Unfit.NotFull))
-remove_no_unfit_not_full = (kept _ _, memories.not_full_lem)
+pub remove_unfit_not_full : RemoveSays 65536 nothing nobody 0 1 nothing nobody (Err (NotChanged.Unfit Unfit.NotFull))
+remove_unfit_not_full = (kept _ _, memories.not_full_lem)
 
-pub remove_no_unfit_unmatched : RemoveSays 65536 one few 0 1 one few (Removed.No (NotChanged.Unfit Unfit.Unmatched))
-remove_no_unfit_unmatched = (kept _ _, memories.unmatched)
+pub remove_unfit_unmatched : RemoveSays 65536 one few 0 1 one few (Err (NotChanged.Unfit Unfit.Unmatched))
+remove_unfit_unmatched = (kept _ _, memories.unmatched)
 
-pub remove_no_unfit_bad_base : RemoveSays 1 one nobody 0 1 one nobody (Removed.No (NotChanged.Unfit Unfit.BadBase))
-remove_no_unfit_bad_base = (kept _ _, memories.bad_base_lem)
+pub remove_unfit_bad_base : RemoveSays 1 one nobody 0 1 one nobody (Err (NotChanged.Unfit Unfit.BadBase))
+remove_unfit_bad_base = (kept _ _, memories.bad_base_lem)
 
-pub remove_no_empty : RemoveSays 65536 one nobody 5 5 one nobody (Removed.No NotChanged.Empty)
-remove_no_empty = (kept _ _, (free_fits, refl))
+pub remove_empty : RemoveSays 65536 one nobody 5 5 one nobody (Err NotChanged.Empty)
+remove_empty = (kept _ _, (free_fits, refl))
 
-pub remove_no_reversed : RemoveSays 65536 one nobody 6 5 one nobody (Removed.No NotChanged.Reversed)
-remove_no_reversed = (kept _ _, (free_fits, lit< tt))
+pub remove_reversed : RemoveSays 65536 one nobody 6 5 one nobody (Err NotChanged.Reversed)
+remove_reversed = (kept _ _, (free_fits, lit< tt))
 
-pub remove_no_outside : RemoveSays 65536 one nobody 0 17 one nobody (Removed.No NotChanged.Outside)
-remove_no_outside = (kept _ _, (free_fits, lit< tt, lit< tt))
+pub remove_outside : RemoveSays 65536 one nobody 0 17 one nobody (Err NotChanged.Outside)
+remove_outside = (kept _ _, (free_fits, lit< tt, lit< tt))
 
-pub remove_no_taken : RemoveSays 65536 taken held 0 1 taken held (Removed.No (NotChanged.Taken 0))
-remove_no_taken = (kept _ _, first_owned)
+pub remove_taken : RemoveSays 65536 taken held 0 1 taken held (Err (NotChanged.Taken 0))
+remove_taken = (kept _ _, first_owned)
 
 -- ---- release_all
 
-pub release_all_done : ReleaseSays 65536 taken held 0 one nobody Released.Done
-release_all_done = (memories.known 65536 taken held 0 accounted_owned (lit< tt), released)
+pub release_all_ok : ReleaseSays 65536 taken held 0 one nobody (Ok tt)
+release_all_ok = (memories.known 65536 taken held 0 accounted_owned (lit< tt), released)
   where
     now : Became taken held 0 1 Free one nobody
     now = became taken held 0 1 1 255 one nobody memories.given_back Free refl
@@ -263,14 +263,14 @@ release_all_done = (memories.known 65536 taken held 0 accounted_owned (lit< tt),
           accounted = λ base a. still taken held 0 1 1 255 one nobody memories.given_back base a (λ k _ l. free_right base k (placed base a k l));
         }
 
-pub release_all_no_client : ReleaseSays 65536 taken held 64 taken held Released.NoClient
+pub release_all_no_client : ReleaseSays 65536 taken held 64 taken held (Err BadClient.NoClient)
 release_all_no_client = (kept _ _, own_fits, lit≤ tt)
 
-pub release_all_unfit_not_full : ReleaseSays 65536 nothing nobody 0 nothing nobody (Released.Unfit Unfit.NotFull)
+pub release_all_unfit_not_full : ReleaseSays 65536 nothing nobody 0 nothing nobody (Err (BadClient.Unfit Unfit.NotFull))
 release_all_unfit_not_full = (kept _ _, memories.not_full_lem)
 
-pub release_all_unfit_unmatched : ReleaseSays 65536 one few 0 one few (Released.Unfit Unfit.Unmatched)
+pub release_all_unfit_unmatched : ReleaseSays 65536 one few 0 one few (Err (BadClient.Unfit Unfit.Unmatched))
 release_all_unfit_unmatched = (kept _ _, memories.unmatched)
 
-pub release_all_unfit_bad_base : ReleaseSays 1 one nobody 0 one nobody (Released.Unfit Unfit.BadBase)
+pub release_all_unfit_bad_base : ReleaseSays 1 one nobody 0 one nobody (Err (BadClient.Unfit Unfit.BadBase))
 release_all_unfit_bad_base = (kept _ _, memories.bad_base_lem)

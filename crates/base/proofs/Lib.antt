@@ -4,3 +4,4 @@ pub mod Search
 pub mod Counts
 pub mod Ranges
 pub mod Choices
+pub mod Positions

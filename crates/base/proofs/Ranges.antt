@@ -1,12 +1,11 @@
 -- The laws of lists that differ in a range alone. Assumes nothing.
 use mathlib.Core.Path.{◌≡◌, refl, ◌∙◌}
 use mathlib.Core.List.{List}
-use Prim.Native.Nat.{ℕ, zero, suc, ◌+◌, ◌≤◌, ◌<◌}
-use lib.ListN.{length, get_or, set, replicate, length-set}
-use lib.Seq.{get_or-set_same, get_or-set_other}
-use native.Mathlib.Decide.{ℕ_discrete}
+use Prim.Native.Nat.{ℕ, zero, suc, ◌+◌, ◌≤◌}
+use lib.ListN.{get_or, set, replicate, length-set}
+use lib.Seq.{get_or-set_other}
 use native.Mathlib.Omega.{arith}
-use Rattle.base.specs.Ranges.{Only, Emptied}
+use Rattle.base.specs.Ranges.{Only}
 
 -- a word of a list of zeros, and what is behind them
 pub zero_word : (w n : ℕ) → get_or {A = ℕ} (replicate w 0) n 0 ≡ 0
@@ -24,20 +23,3 @@ set_only t k v = record { long = simp length-set; others = λ j o. get_or-set_ot
 pub only_then : {t t' t'' : List ℕ} {a b a' b' : ℕ} (x y : ℕ) → Only t a b t' → Only t' a' b' t'' → x ≤ a → b ≤ y → x ≤ a' → b' ≤ y → Only t x y t''
 only_then x y o p l l' h h' =
     record { long = p.long ∙ o.long; others = λ k q. p.others k (λ u w. q (omega arith) (omega arith)) ∙ o.others k (λ u w. q (omega arith) (omega arith)) }
-
--- ---- words that are made 0, from the first on
-
-pub empty_none : (w : List ℕ) (p : ℕ) → Emptied w p p w
-empty_none w p = record { long = refl; inside = λ j l h. absurd (omega arith); outside = λ j x. refl }
-
--- one word more
-pub empty_more : (w : List ℕ) (p j : ℕ) (w' : List ℕ) → p ≤ j → j < length w' → Emptied w p j w' → Emptied w p (j + 1) (set w' j 0)
-empty_more w p j w' l h f = record {
-  long = length-set w' j 0 ∙ f.long;
-  inside = λ m lo hi. here m lo hi (ℕ_discrete m j);
-  outside = λ m x. get_or-set_other w' j m 0 0 (λ e. x (omega arith) (omega arith)) ∙ f.outside m (λ a b. x a (omega arith));
-}
-  where
-    here : (m : ℕ) → p ≤ m → m < j + 1 → Dec (m ≡ j) → get_or (set w' j 0) m 0 ≡ 0
-    here m lo hi (yes e) = rw e (get_or-set_same w' j 0 0 h)
-    here m lo hi (no d) = get_or-set_other w' j m 0 0 d ∙ f.inside m lo (omega (arith, d))

@@ -1,5 +1,5 @@
 -- What a caller learns from an answer. Assumes nothing.
-use mathlib.Core.Path.{◌≡◌, sym, subst}
+use mathlib.Core.Path.{◌≡◌, refl, sym, subst}
 use mathlib.Core.Bool.{Bool, true, false, not, true≢false}
 use Rattle.base.specs.Says.{Says}
 
@@ -24,6 +24,11 @@ not_refused false e s = absurd (true≢false e)
 pub refused : {P : Type 0} (b : Bool) → not b ≡ true → Says b P → P → ⊥
 refused false e s = s
 refused true e s = absurd (true≢false (sym e))
+
+-- an answer is right where it is in both cases
+pub says_of : {P : Type 0} (b : Bool) → (b ≡ true → P) → (b ≡ false → P → ⊥) → Says b P
+says_of true f g = f refl
+says_of false f g = g refl
 
 -- an answer about P is one about Q, where the two are the same
 pub says_same : {P Q : Type 0} (b : Bool) → (P → Q) → (Q → P) → Says b P → Says b Q

@@ -39,6 +39,10 @@ stops_more {P} {a} {k} s p = let low = s.low in record { low = omega arith; high
 pub stops_at : {P : ℕ → Type 0} {a k : ℕ} (b : ℕ) → Stops P a k k → k ≤ b → (k < b → P k → ⊥) → Stops P a b k
 stops_at b s l f = record { low = s.low; high = l; before = s.before; fails = f }
 
+-- a search that has passed all numbers up to the last ends there
+pub stops_all : {P : ℕ → Type 0} {a b k r : ℕ} → k ≡ b → k ≡ r → Stops P a k k → Stops P a b r
+stops_all e f s = rw (← e, ← f) s
+
 -- ---- downwards
 
 no_lower : {P : ℕ → Type 0} {a b r s : ℕ} → Since P a b r → Since P a b s → r < s → ⊥

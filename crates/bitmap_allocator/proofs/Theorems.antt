@@ -9,14 +9,15 @@ use lib.ListN.{length}
 use Rattle.base.proofs.Counts.{many_change, many_const}
 use Rattle.bitmap_tree.specs.Tree.{free, cap, Full, Agree}
 use Rattle.bitmap_tree.specs.Writes.{Changed}
-use Rattle.bitmap_allocator.specs.declared.Wiped.{Wiped}
+use Rattle.std.proofs.Common.{Result, Ok, Err}
+use Rattle.bitmap_tree.specs.declared.NotFull.{NotFull}
 use Rattle.bitmap_looks.specs.Looks.{free_frames}
 use Rattle.bitmap_allocator.specs.Changes.{Reset, ResetSays, Took, TookRun, Gave, SetRange}
 
 -- whatever the words of a full tree hold, after reset they are a full tree whose summaries agree
-pub reset_agrees : (t t' : List ℕ) (r : Wiped) → Full (length t) → ResetSays t t' r → Full (length t') × Agree t'
-reset_agrees t t' Wiped.Done f x = (rw x.long f, x.agree)
-reset_agrees t t' Wiped.NotFull f x = absurd (x.1 f)
+pub reset_agrees : (t t' : List ℕ) (r : Result Unit NotFull) → Full (length t) → ResetSays t t' r → Full (length t') × Agree t'
+reset_agrees t t' (Ok _) f x = (rw x.long f, x.agree)
+reset_agrees t t' (Err _) f x = absurd (x.1 f)
 
 -- ---- how many frames are free
 

@@ -6,35 +6,39 @@
 // and "none is free", holds where the summaries agree, as they do from `reset` on. `Corrupt` is
 // answered only where they do not agree; bitmap_looks has `check`, which alone decides whether
 // they do, and what is asked and changes nothing.
-#![tactic(auto)]
+#![tactic(auto, using(bitmap_tree::proofs::Fullness::full_bound))]
 
-ghost use Rattle.std.specs.Prelude.{◌<◌};
-ghost use Rattle.bitmap_allocator.specs.Changes.{ResetSays, AllocSays, RunSays, DeallocSays, RangeSays};
+ghost use Rattle.std.specs.Prelude.{◌≡◌, ◌<◌};
+ghost use Rattle.bitmap_allocator.specs.Changes.{ResetSays, AllocSays, RunSays, DeallocSays, RangeSays, not_allocated, run_not_taken};
 
-use bitmap_runs::Searched;
-use bitmap_search::Next;
+use bitmap_search::Missed;
+use bitmap_tree::NotFull;
 
-// What became of a tree that was to be wiped.
-#[derive(Drop)]
-pub enum Wiped {
-    Done,
-    NotFull,
-}
-
-// The frame that was taken.
-#[derive(Drop)]
-pub enum Allocated {
-    Frame(usize),
+// Why no frame is taken.
+#[derive(Clone, Copy, Debug, PartialEq, Eq)]
+pub enum NotAllocated {
     // No frame is free.
     NoRoom,
+    // A summary was met that does not agree with its word. Each enum below that has this variant means the same by it.
     Corrupt,
+    // So many words are no full tree. Each enum below that has this variant means the same by it.
     NotFull,
 }
 
-// The first frame of the run that was taken.
-#[derive(Drop)]
-pub enum RunTaken {
-    At(usize),
+impl From<Missed> for NotAllocated {
+    ghost from_gives = { λ m n. n ≡ not_allocated m };
+
+    fn from(missed: Missed) -> NotAllocated {
+        match missed {
+            Missed::Nothing => NotAllocated::NoRoom,
+            Missed::Corrupt => NotAllocated::Corrupt,
+        }
+    }
+}
+
+// Why no run of frames is taken.
+#[derive(Clone, Copy, Debug, PartialEq, Eq)]
+pub enum RunNotTaken {
     // There is no such run of free frames.
     NoRoom,
     Corrupt,
@@ -43,107 +47,113 @@ pub enum RunTaken {
     NotFull,
 }
 
-// What became of a frame that was to be freed.
-#[derive(Drop)]
-pub enum Freed {
-    Done,
+impl From<Missed> for RunNotTaken {
+    ghost from_gives = { λ m n. n ≡ run_not_taken m };
+
+    fn from(missed: Missed) -> RunNotTaken {
+        match missed {
+            Missed::Nothing => RunNotTaken::NoRoom,
+            Missed::Corrupt => RunNotTaken::Corrupt,
+        }
+    }
+}
+
+// Why a frame is not freed.
+#[derive(Clone, Copy, Debug, PartialEq, Eq)]
+pub enum NotFreed {
     // It was free before.
     NotTaken,
+    // There is no such frame.
     Outside,
     NotFull,
 }
 
-// What became of a range of frames that was to be freed or taken.
-#[derive(Drop)]
-pub enum Ranged {
-    Done,
+// Why no range of frames is freed or taken.
+#[derive(Clone, Copy, Debug, PartialEq, Eq)]
+pub enum BadRange {
     // It ends where it starts.
     Empty,
     // It ends before it starts.
     Reversed,
+    // It has a frame that is not there.
     Outside,
     NotFull,
 }
 
 // Makes every frame taken, whatever the words held.
-pub fn reset(tree: &mut [u16]) -> Wiped
+#[tactic(auto, using(crate::proofs::Answers::wiped))]
+pub fn reset(tree: &mut [u16]) -> Result<(), NotFull>
     ensures { ResetSays tree.old tree.new result }
 {
     let w = tree.len();
     if !bitmap_tree::is_full(w) {
-        return Wiped::NotFull;
+        return Err(NotFull);
     }
     bitmap_range::flood(tree, 0, w, 0);
-    Wiped::Done
+    Ok(())
 }
 
 // Takes the lowest free frame.
-pub fn alloc(tree: &mut [u16]) -> Allocated
+pub fn alloc(tree: &mut [u16]) -> Result<usize, NotAllocated>
     ensures { AllocSays tree.old tree.new result }
 {
     if !bitmap_tree::is_full(tree.len()) {
-        return Allocated::NotFull;
+        return Err(NotAllocated::NotFull);
     }
-    match bitmap_search::lowest(tree) {
-        Next::Nothing => Allocated::NoRoom,
-        Next::Corrupt => Allocated::Corrupt,
-        Next::Frame(k) => {
-            bitmap_tree::change_one(tree, k, 0);
-            Allocated::Frame(k)
-        }
-    }
+    let k = bitmap_search::lowest(tree)?;
+    bitmap_tree::change_one(tree, k, 0);
+    Ok(k)
 }
 
 // Takes the lowest run of `size` free frames whose first is a multiple of 2 to the power of
 // `align_log2`.
-#[tactic(auto, using(base::proofs::Says::not_refused))]
-pub fn alloc_contiguous(tree: &mut [u16], size: usize, align_log2: usize) -> RunTaken
+pub fn alloc_contiguous(
+    tree: &mut [u16],
+    size: usize,
+    align_log2: usize,
+) -> Result<usize, RunNotTaken>
     ensures { RunSays tree.old size align_log2 tree.new result }
 {
     if !bitmap_tree::is_full(tree.len()) {
-        return RunTaken::NotFull;
+        return Err(RunNotTaken::NotFull);
     }
     if size == 0 {
-        return RunTaken::Empty;
+        return Err(RunNotTaken::Empty);
     }
-    match bitmap_runs::find_run(tree, size, align_log2) {
-        Searched::Nowhere => RunTaken::NoRoom,
-        Searched::Corrupt => RunTaken::Corrupt,
-        Searched::At(s) => {
-            bitmap_range::change(tree, s, s + size, 0);
-            RunTaken::At(s)
-        }
-    }
+    let s = bitmap_runs::find_run(tree, size, align_log2)?;
+    bitmap_range::change(tree, s, s + size, 0);
+    Ok(s)
 }
 
 // Makes frame k, which is taken, free.
-pub fn dealloc(tree: &mut [u16], k: usize) -> Freed
+#[tactic(auto, using(bitmap_tree::proofs::Fullness::full_bound, bitmap_tree::proofs::Nodes::bit_clear))]
+pub fn dealloc(tree: &mut [u16], k: usize) -> Result<(), NotFreed>
     ensures { DeallocSays tree.old k tree.new result }
 {
     let w = tree.len();
     if !bitmap_tree::is_full(w) {
-        return Freed::NotFull;
+        return Err(NotFreed::NotFull);
     }
     if 15 * w < k {
-        return Freed::Outside;
+        return Err(NotFreed::Outside);
     }
     let bit = bitmap_tree::read(tree, w + k);
     if bit == 1 {
-        return Freed::NotTaken;
+        return Err(NotFreed::NotTaken);
     }
     bitmap_tree::change_one(tree, k, 1);
-    Freed::Done
+    Ok(())
 }
 
 // Makes the frames from `from` up to `to` free, whatever they were.
-pub fn insert(tree: &mut [u16], from: usize, to: usize) -> Ranged
+pub fn insert(tree: &mut [u16], from: usize, to: usize) -> Result<(), BadRange>
     ensures { RangeSays tree.old from to 1 tree.new result }
 {
     change_range(tree, from, to, 1)
 }
 
 // Makes the frames from `from` up to `to` taken, whatever they were.
-pub fn remove(tree: &mut [u16], from: usize, to: usize) -> Ranged
+pub fn remove(tree: &mut [u16], from: usize, to: usize) -> Result<(), BadRange>
     ensures { RangeSays tree.old from to 0 tree.new result }
 {
     change_range(tree, from, to, 0)
@@ -151,24 +161,23 @@ pub fn remove(tree: &mut [u16], from: usize, to: usize) -> Ranged
 
 // What `insert` and `remove` have in common: the frames become free where v is 1, and taken where v
 // is 0.
-#[tactic(auto, using(base::proofs::Says::not_refused))]
-fn change_range(tree: &mut [u16], from: usize, to: usize, v: u16) -> Ranged
+fn change_range(tree: &mut [u16], from: usize, to: usize, v: u16) -> Result<(), BadRange>
     requires { v < 2 }
     ensures { RangeSays tree.old from to v tree.new result }
 {
     let w = tree.len();
     if !bitmap_tree::is_full(w) {
-        return Ranged::NotFull;
+        return Err(BadRange::NotFull);
     }
     if from == to {
-        return Ranged::Empty;
+        return Err(BadRange::Empty);
     }
     if to < from {
-        return Ranged::Reversed;
+        return Err(BadRange::Reversed);
     }
     if 15 * w + 1 < to {
-        return Ranged::Outside;
+        return Err(BadRange::Outside);
     }
     bitmap_range::change(tree, from, to, v);
-    Ranged::Done
+    Ok(())
 }

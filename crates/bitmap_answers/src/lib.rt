@@ -1,92 +1,53 @@
-// What the allocator answers, as plain numbers, and the numbers that stand in a file of answers. A
+// What the allocator answers, as a file of answers has it, and the numbers that stand in such a file. A
 // library for programs that replay requests; nothing here prints.
 #![tactic(auto)]
 
-ghost use Rattle.std.specs.Prelude.{◌<◌};
+use bitmap_requests::refusal::Refusal;
+use bitmap_requests::{Answer, Request};
 
-use bitmap_looks::{Tested, Words};
+// The number that stands in the file for the answer that there is no such frame.
+const NONE: usize = 4294967295;
 
-// The answer that there is no such frame, as the file has it.
-pub const NONE: usize = 4294967295;
-// The answer that a request is refused: more than any number of the file.
-pub const REFUSED: usize = 4294967296;
-// The greatest number.
-const MOST: usize = 18446744073709551615;
-
-// How many words a tree of so many frames has, or 0 if there is no such tree.
-pub fn words(frames: usize) -> usize {
-    match bitmap_looks::words_for(frames) {
-        Words::Count(w) => w,
-        Words::NoSize => 0,
-    }
-}
-
-// What the tree answers to a request of this kind, as the file has it.
-pub fn ask(tree: &mut [u16], kind: usize, a: usize, b: usize) -> usize {
-    told(bitmap_requests::make(tree, request(kind), a, b))
-}
-
-// The request of this kind.
-fn request(kind: usize) -> usize {
+// The request for which a number stands in the file.
+pub fn request(kind: usize) -> Option<Request> {
     match kind {
-        0 => bitmap_requests::ALLOC,
-        1 => bitmap_requests::NEXT,
-        2 => bitmap_requests::ALLOC_CONTIGUOUS,
-        3 => bitmap_requests::DEALLOC,
-        4 => bitmap_requests::INSERT,
-        _ => bitmap_requests::REMOVE,
+        0 => Some(Request::Alloc),
+        1 => Some(Request::Next),
+        2 => Some(Request::AllocContiguous),
+        3 => Some(Request::Dealloc),
+        4 => Some(Request::Insert),
+        5 => Some(Request::Remove),
+        _ => None,
     }
 }
 
-// The number that stands in the file for an answer.
-fn told(answer: usize) -> usize {
-    let kind = answer % 32;
-    match kind {
-        bitmap_requests::FRAME => answer / 32,
-        bitmap_requests::DONE => 0,
-        bitmap_requests::NOTHING => NONE,
-        bitmap_requests::NO_ROOM => NONE,
-        _ => REFUSED,
-    }
-}
-
-// 1 if frame k is free, and 0 if it is taken.
-pub fn free_at(tree: &[u16], k: usize) -> usize {
-    match bitmap_looks::test(tree, k) {
-        Tested::Free => 1,
-        Tested::Taken => 0,
-        Tested::Outside => REFUSED,
-        Tested::NotFull => REFUSED,
+// The number that stands in the file for what the tree answers to a request; none does for a refusal.
+pub fn ask(tree: &mut [u16], request: Request, a: usize, b: usize) -> Option<usize> {
+    match bitmap_requests::make(tree, request, a, b) {
+        Ok(Answer::Frame(k)) => Some(k),
+        Ok(Answer::Done) => Some(0),
+        Err(Refusal::Nothing | Refusal::NoRoom) => Some(NONE),
+        _ => None,
     }
 }
 
 // The bit k of the words that stand at a place, or 0 past the end. A word's low byte comes first.
-pub fn bit_at(bytes: &[u8], at: usize, k: usize) -> usize {
-    (byte_at(bytes, sum(at, k / 8)) >> (k % 8)) % 2
+pub fn bit_at(bytes: &[u8], at: usize, k: usize) -> bool {
+    (byte_at(bytes, at.saturating_add(k / 8)) >> (k % 8)) % 2 == 1
 }
 
 // The number of four bytes that stands at a place; bytes past the end are 0.
 pub fn u32_at(bytes: &[u8], at: usize) -> usize {
-    let low = byte_at(bytes, at) + 256 * byte_at(bytes, sum(at, 1));
-    let high = byte_at(bytes, sum(at, 2)) + 256 * byte_at(bytes, sum(at, 3));
-    low + 65536 * high
+    let four = [
+        byte_at(bytes, at),
+        byte_at(bytes, at.saturating_add(1)),
+        byte_at(bytes, at.saturating_add(2)),
+        byte_at(bytes, at.saturating_add(3)),
+    ];
+    u32::from_le_bytes(four) as usize
 }
 
 // The byte at a place, or 0 past the end.
-fn byte_at(bytes: &[u8], at: usize) -> usize
-    ensures { result < 256 }
-{
-    if at < bytes.len() { wide(bytes[at]) } else { 0 }
-}
-
-// The same number.
-fn wide(byte: u8) -> usize
-    ensures { result < 256 }
-{
-    byte as usize
-}
-
-// The sum, or the greatest number if that is less.
-pub fn sum(a: usize, b: usize) -> usize {
-    if b <= MOST - a { a + b } else { MOST }
+fn byte_at(bytes: &[u8], at: usize) -> u8 {
+    bytes.get(at).copied().unwrap_or(0)
 }

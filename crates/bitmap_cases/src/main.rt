@@ -6,121 +6,54 @@
 
 mod read;
 
+use bitmap_requests::Request;
 use std::io;
 use std::io::{BufWriter, Read, Write};
 
-// Prints a text.
-fn say(out: &mut impl Write, text: &[u8]) -> io::Result<()> {
-    out.write_all(text)
-}
-
-// Prints a number.
-fn number(out: &mut impl Write, n: usize) -> io::Result<()> {
-    write!(out, "{n}")
-}
-
-// Prints the part of a text from `at` up to `end`.
-fn part(out: &mut impl Write, text: &[u8], at: usize, end: usize) -> io::Result<()> {
-    if at <= end && end <= text.len() {
-        say(out, &text[at..end])?;
-    }
-    Ok(())
-}
-
-// Prints the name with the number k.
-fn name(out: &mut impl Write, list: &[u8], k: usize) -> io::Result<()> {
-    let at = bitmap_names::start(list, k);
-    part(out, list, at, bitmap_names::find(list, at, b','))
-}
-
-// Prints an answer.
-fn tell(out: &mut impl Write, answer: usize) -> io::Result<()> {
-    if answer % 32 == bitmap_requests::NUMBER {
-        return number(out, answer / 32);
-    }
-    name(out, &bitmap_names::ANSWERS, answer % 32)?;
-    if answer % 32 <= bitmap_requests::LIE {
-        say(out, b" ")?;
-        number(out, answer / 32)?;
-    }
-    Ok(())
-}
-
-// Makes the request of a line, and prints its answer.
-fn request(out: &mut impl Write, tree: &mut [u16], line: &[u8], n: usize) -> io::Result<()> {
-    let w = tree.len();
-    let first = read::next_word(line, 0);
-    let a = read::number(line, first, n, w);
-    let b = read::number(line, read::next_word(line, first), n, w);
-    tell(
-        out,
-        bitmap_requests::make(tree, bitmap_names::request(line), a, b),
-    )
-}
-
-// Prints a line, and behind it what its request answers, unless it starts with `#`.
+// Makes the request of a line, and prints what it is answered. A first word that names no request is damage.
 fn answered(out: &mut impl Write, tree: &mut [u16], line: &[u8], n: usize) -> io::Result<()> {
-    say(out, line)?;
-    if bitmap_names::byte(line, 0) == b'#' {
-        return say(out, b"\n");
+    let w = tree.len();
+    let mut words = line.split(|c| *c == b' ');
+    let request = Request::try_from(words.next().unwrap_or(b"")).unwrap_or(Request::Put);
+    let a = read::number(words.next().unwrap_or(b""), n, w);
+    let b = read::number(words.next().unwrap_or(b""), n, w);
+    match bitmap_requests::make(tree, request, a, b) {
+        Ok(answer) => write!(out, "{answer}"),
+        Err(refusal) => write!(out, "{refusal}"),
     }
-    say(out, b": ")?;
-    request(out, tree, line, n)?;
-    say(out, b"\n")
 }
 
-// The number of frames, or 0.
-fn frames(tree: &mut [u16]) -> usize {
-    bitmap_requests::make(tree, bitmap_requests::CAP, 0, 0) / 32
+// Prints a line, and behind it what its request is answered, unless it starts with `#`.
+fn said(out: &mut impl Write, tree: &mut [u16], line: &[u8], n: usize) -> io::Result<()> {
+    out.write_all(line)?;
+    if line.first() != Some(&b'#') {
+        out.write_all(b": ")?;
+        answered(out, tree, line, n)?;
+    }
+    out.write_all(b"\n")
 }
 
-// Prints all lines so.
+// Prints all lines so: the parts of the text that end with a line end.
 fn lines(out: &mut impl Write, tree: &mut [u16], text: &[u8]) -> io::Result<()> {
-    let n = frames(tree);
-    let mut at: usize = 0;
-    while at < text.len() {
-        let end = bitmap_names::find(text, at, b'\n');
-        if end < at {
-            return Ok(());
+    let n = bitmap_looks::cap(tree).unwrap_or(0);
+    for part in text.split_inclusive(|c| *c == b'\n') {
+        if let Some(line) = part.strip_suffix(b"\n") {
+            said(out, tree, line, n)?;
         }
-        if text.len() <= end {
-            return Ok(());
-        }
-        answered(out, tree, &text[at..end], n)?;
-        at = end + 1;
-    }
-    Ok(())
-}
-
-// Prints them for the first w words.
-fn in_words(out: &mut impl Write, words: &mut [u16], w: usize, text: &[u8]) -> io::Result<()> {
-    say(out, b"\nwords: ")?;
-    number(out, w)?;
-    say(out, b"\n")?;
-    if w <= words.len() {
-        lines(out, &mut words[..w], text)?;
     }
     Ok(())
 }
 
 // The lengths that are tried: the trees of 16 to 1048576 frames, and three that are no tree.
-fn length(i: usize) -> usize {
-    match i {
-        0 => 1,
-        1 => 17,
-        2 => 273,
-        3 => 4369,
-        4 => 69905,
-        5 => 0,
-        6 => 18,
-        _ => 272,
-    }
-}
+const LENGTHS: [usize; 8] = [1, 17, 273, 4369, 69905, 0, 18, 272];
 
-// Prints them for each length.
-fn lengths(out: &mut impl Write, words: &mut [u16], text: &[u8]) -> io::Result<()> {
-    for i in 0..8 {
-        in_words(out, words, length(i), text)?;
+// Prints them for each length, on the first of the words.
+fn lengths(out: &mut impl Write, words: &mut [u16; 69905], text: &[u8]) -> io::Result<()> {
+    for w in LENGTHS {
+        writeln!(out, "\nwords: {w}")?;
+        if w <= words.len() {
+            lines(out, &mut words[..w], text)?;
+        }
     }
     Ok(())
 }

@@ -1,83 +1,66 @@
 // Whether a request changed what its answer says, by `test` of every frame before and after.
-use bitmap_looks::Tested;
-use bitmap_requests::{ALLOC, ALLOC_CONTIGUOUS, DEALLOC, DONE, FRAME, INSERT, NEXT, PUT, RESET};
+use super::Reply;
+use bitmap_requests::{Answer, Request};
 
-// What `test` says of frame k: 1 if it is free, 0 if it is taken, and 2 if it is neither.
-fn tested(tree: &[u16], k: usize) -> u16 {
-    match bitmap_looks::test(tree, k) {
-        Tested::Free => 1,
-        Tested::Taken => 0,
-        Tested::Outside => 2,
-        Tested::NotFull => 2,
-    }
+// Whether `test` says that frame k is free; nothing, where it says neither that nor that it is taken.
+fn tested(tree: &[u16], k: usize) -> Option<bool> {
+    bitmap_looks::test(tree, k).ok()
 }
 
-// Whether `test` says of frame k that it is v, if it is one from a up to b, and else what it said before.
-fn became(old: &[u16], tree: &[u16], k: usize, a: usize, b: usize, v: u16) -> bool {
-    let now = tested(tree, k);
-    if a <= k && k < b {
-        return now == v;
-    }
-    now == tested(old, k)
+// Whether `test` says of frame k that it is free, where `free` holds, or that it is taken, where not, if k is one from
+// a up to b; and else what it said before.
+fn became(old: &[u16], tree: &[u16], k: usize, a: usize, b: usize, free: bool) -> bool {
+    let said = if a <= k && k < b {
+        Some(free)
+    } else {
+        tested(old, k)
+    };
+    tested(tree, k) == said
 }
 
 // Whether that is so of every frame.
-fn all_became(old: &[u16], tree: &[u16], a: usize, b: usize, v: u16) -> bool {
-    let n = bitmap_plain::frames(tree);
-    let mut k: usize = 0;
-    while k < n {
-        if !became(old, tree, k, a, b, v) {
-            return false;
-        }
-        k += 1;
-    }
-    true
+fn all_became(old: &[u16], tree: &[u16], a: usize, b: usize, free: bool) -> bool {
+    (0..bitmap_plain::frames(tree)).all(|k| became(old, tree, k, a, b, free))
 }
 
-// The first frame that a request changed, where it was done or found frame f.
-fn start(request: usize, a: usize, f: usize) -> usize {
+// The frames that a request changed, where it was done or found frame f: the first, and the one behind the
+// last.
+fn changed(request: Request, a: usize, b: usize, f: usize) -> (usize, usize) {
     match request {
-        RESET => 0,
-        ALLOC => f,
-        ALLOC_CONTIGUOUS => f,
-        _ => a,
-    }
-}
-
-// The frame behind the last that it changed.
-fn end(request: usize, a: usize, b: usize, f: usize) -> usize {
-    match request {
-        RESET => 4096,
-        ALLOC => std::num::wrapping_add_usize(f, 1),
-        ALLOC_CONTIGUOUS => std::num::wrapping_add_usize(f, a),
-        DEALLOC => std::num::wrapping_add_usize(a, 1),
-        _ => b,
+        Request::Reset => (0, 4096),
+        Request::Alloc => (f, f.wrapping_add(1)),
+        Request::AllocContiguous => (f, f.wrapping_add(a)),
+        Request::Dealloc => (a, a.wrapping_add(1)),
+        _ => (a, b),
     }
 }
 
 // Whether the frames changed as the answer says; or no word did, where nothing was done.
-pub fn right(old: &[u16], tree: &[u16], request: usize, a: usize, b: usize, answer: usize) -> bool {
-    if request == PUT {
-        return true;
-    }
-    if answer % 32 != DONE && (answer % 32 != FRAME || request == NEXT) {
-        return bitmap_plain::same(old, tree);
-    }
-    let f = answer / 32;
-    let v = if request == DEALLOC || request == INSERT {
-        1
-    } else {
-        0
+pub fn right(
+    old: &[u16],
+    tree: &[u16],
+    request: Request,
+    a: usize,
+    b: usize,
+    reply: Reply,
+) -> bool {
+    let f = match reply {
+        _ if request == Request::Put => return true,
+        Ok(Answer::Done) => 0,
+        Ok(Answer::Frame(f)) if request != Request::Next => f,
+        _ => return old == tree,
     };
-    all_became(old, tree, start(request, a, f), end(request, a, b, f), v)
+    let (start, end) = changed(request, a, b, f);
+    let free = request == Request::Dealloc || request == Request::Insert;
+    all_became(old, tree, start, end, free)
 }
 
 // Whether the summaries agree, if they did before, or if all was reset.
-pub fn sound(old: &[u16], tree: &[u16], request: usize, answer: usize) -> bool {
-    if request == PUT {
+pub fn sound(old: &[u16], tree: &[u16], request: Request, reply: Reply) -> bool {
+    if request == Request::Put {
         return true;
     }
-    if request == RESET && answer == DONE || bitmap_plain::sound(old) {
+    if request == Request::Reset && reply == Ok(Answer::Done) || bitmap_plain::sound(old) {
         return bitmap_plain::sound(tree);
     }
     true

@@ -1,5 +1,6 @@
 -- From what the inner crates' functions say to what the public ones do. Assumes nothing.
-use mathlib.Core.Path.{◌≡◌}
+use mathlib.Core.Bool.{Bool, true, false}
+use mathlib.Core.Path.{◌≡◌, refl}
 use mathlib.Core.List.{List}
 use Prim.Native.Nat.{ℕ, ◌+◌, ◌-◌, ◌*◌, ◌/◌, ◌%◌, ◌<◌, min}
 use native.Mathlib.Decide.{ℕ_discrete}
@@ -7,14 +8,13 @@ use native.Mathlib.Omega.{arith}
 use lib.ListN.{length, get_or}
 use Rattle.base.specs.Search.{Stops}
 use Rattle.base.proofs.Search.{some_fails}
-use Rattle.bitmap_tree.specs.Tree.{node_bit, Full, Summarised, Honest, Agree}
+use Rattle.std.proofs.Common.{Ok}
+use Rattle.bitmap_tree.specs.Tree.{node_bit, free, cap, Full, Summarised, Honest, Agree}
 use Rattle.bitmap_tree.proofs.Fullness.{full_bound, full_whole}
 use Rattle.bitmap_tree.proofs.Summaries.{some_under, Words16}
-use Rattle.bitmap_looks.specs.Looks.{HasFree, LowestLie}
-
--- the size of a tree is the size of its frames
-pub words_once : (frames w : ℕ) → 15 * w + 1 ≡ frames → (frames - 1) / 15 ≡ w
-words_once frames w e = omega arith
+use Rattle.bitmap_tree.proofs.Nodes.{bit_clear}
+use Rattle.bitmap_search.proofs.Descent.{root_says_none}
+use Rattle.bitmap_looks.specs.Looks.{HasFree, LowestLie, AnySays, TestSays}
 
 -- where the root is not 0 some frame is free
 pub root_says_some : (t : List ℕ) → Full (length t) → Words16 t → (get_or t 0 0 ≡ 0 → ⊥) → Agree t → HasFree t
@@ -25,6 +25,16 @@ root_says_some t f words some a =
     let hi = r.2 in
     let e : length t + (r.0 - length t) ≡ r.0 = omega arith in
     record { frame = r.0 - length t; within = omega arith; is = rw e r.3 }
+
+-- what the root tells
+pub root_says : (t : List ℕ) → Full (length t) → Words16 t → (b : Bool) → (b ≡ true → get_or t 0 0 ≡ 0 → ⊥) → (b ≡ false → get_or t 0 0 ≡ 0) → AnySays t (Ok b)
+root_says t f words true some none = (f, some refl, root_says_some t f words (some refl))
+root_says t f words false some none = (f, none refl, root_says_none t f (none refl))
+
+-- what a frame's bit tells
+pub bit_says : (t : List ℕ) (k : ℕ) → Full (length t) → k < cap t → (b : Bool) → (b ≡ true → free t k ≡ 1) → (b ≡ false → free t k ≡ 1 → ⊥) → TestSays t k (Ok b)
+bit_says t k f l true set clear = (f, l, set refl)
+bit_says t k f l false set clear = (f, l, bit_clear t (length t + k) (clear refl))
 
 -- a word is summarised if its parent is honest
 from_parent : (t : List ℕ) (n : ℕ) → 0 < n → Honest t ((n - 1) / 16) → Summarised t n

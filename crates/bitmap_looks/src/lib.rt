@@ -5,171 +5,137 @@
 // refused, and so is a frame that is not there. What is said of the frames holds for any words; what is
 // exact, "the lowest" and "none is free", holds where the summaries agree. `Corrupt` is answered only
 // where they do not agree; `check` alone decides whether they do.
-#![tactic(auto)]
+#![tactic(auto, using(bitmap_tree::proofs::Fullness::full_bound))]
 
-ghost use Rattle.std.specs.Prelude.{◌<◌};
-ghost use Rattle.bitmap_looks.specs.Looks.{CapSays, CountSays, AnySays, TestSays, NextSays, CheckSays, WordsSays};
+ghost use Rattle.std.specs.Prelude.{◌≡◌, ◌<◌};
+ghost use Rattle.bitmap_looks.specs.Looks.{CapSays, CountSays, AnySays, TestSays, NextSays, CheckSays, WordsSays, no_next};
 
-use bitmap_search::Next;
+use bitmap_search::Missed;
+use bitmap_tree::NotFull;
 
-// How many words a tree has.
-#[derive(Drop)]
-pub enum Words {
-    Count(usize),
-    // No full tree has so many frames.
-    NoSize,
-}
-
-// A number of frames.
-#[derive(Drop)]
-pub enum Counted {
-    Frames(usize),
+// Why it is not told whether a frame is free.
+#[derive(Clone, Copy, Debug, PartialEq, Eq)]
+pub enum NotTested {
+    // There is no such frame. Each enum below that has this variant means the same by it.
+    Outside,
     // So many words are no full tree. Each enum below that has this variant means the same by it.
     NotFull,
 }
 
-// Whether some frame is free.
-#[derive(Drop)]
-pub enum SomeFree {
-    Yes,
-    No,
-    NotFull,
-}
-
-// Whether a frame is free.
-#[derive(Drop)]
-pub enum Tested {
-    Free,
-    Taken,
-    // There is no such frame. Each enum below that has this variant means the same by it.
-    Outside,
-    NotFull,
-}
-
-// The lowest free frame at or above a number.
-#[derive(Drop)]
-pub enum NextFree {
-    Frame(usize),
+// Why no free frame is named.
+#[derive(Clone, Copy, Debug, PartialEq, Eq)]
+pub enum NoNext {
+    // None is free from there on.
     Nothing,
-    // A summary was met that does not agree with its word. Each enum below that has this variant
-    // means the same by it.
+    // A summary was met that does not agree with its word.
     Corrupt,
     Outside,
     NotFull,
 }
 
-// Whether the summaries agree.
-#[derive(Drop)]
-pub enum Checked {
-    Sound,
-    // The lowest word with a bit that does not agree with the word that it summarises.
+impl From<Missed> for NoNext {
+    ghost from_gives = { λ m n. n ≡ no_next m };
+
+    fn from(missed: Missed) -> NoNext {
+        match missed {
+            Missed::Nothing => NoNext::Nothing,
+            Missed::Corrupt => NoNext::Corrupt,
+        }
+    }
+}
+
+// Why it is not so that the summaries agree.
+#[derive(Clone, Copy, Debug, PartialEq, Eq)]
+pub enum Unsound {
+    // They do not: the lowest word with a bit that does not agree with the word that it summarises.
     Lie(usize),
     NotFull,
 }
 
-// How many words a tree of so many frames has.
-pub fn words_for(frames: usize) -> Words
+// How many words a tree of so many frames has; no full tree has another number of frames.
+pub fn words_for(frames: usize) -> Option<usize>
     ensures { WordsSays frames result }
 {
-    if frames == 0 {
-        return Words::NoSize;
+    let w = frames / 15;
+    if frames % 15 == 1 && bitmap_tree::is_full(w) {
+        Some(w)
+    } else {
+        None
     }
-    let w = (frames - 1) / 15;
-    if (frames - 1) % 15 != 0 {
-        return Words::NoSize;
-    }
-    if !bitmap_tree::is_full(w) {
-        return Words::NoSize;
-    }
-    Words::Count(w)
 }
 
 // How many frames there are.
-pub fn cap(tree: &[u16]) -> Counted
+pub fn cap(tree: &[u16]) -> Result<usize, NotFull>
     ensures { CapSays tree.now result }
 {
     let w = tree.len();
     if !bitmap_tree::is_full(w) {
-        return Counted::NotFull;
+        return Err(NotFull);
     }
-    Counted::Frames(15 * w + 1)
+    Ok(15 * w + 1)
 }
 
 // How many frames are free.
-pub fn count_free(tree: &[u16]) -> Counted
+pub fn count_free(tree: &[u16]) -> Result<usize, NotFull>
     ensures { CountSays tree.now result }
 {
-    let w = tree.len();
-    if !bitmap_tree::is_full(w) {
-        return Counted::NotFull;
+    if !bitmap_tree::is_full(tree.len()) {
+        return Err(NotFull);
     }
-    let n = bitmap_tree::count(tree);
-    Counted::Frames(n)
+    Ok(bitmap_tree::count(tree))
 }
 
 // Whether some frame is free.
-pub fn any(tree: &[u16]) -> SomeFree
+pub fn any(tree: &[u16]) -> Result<bool, NotFull>
     ensures { AnySays tree.now result }
 {
     if !bitmap_tree::is_full(tree.len()) {
-        return SomeFree::NotFull;
+        return Err(NotFull);
     }
-    let root = tree[0];
-    if root == 0 {
-        SomeFree::No
-    } else {
-        SomeFree::Yes
-    }
+    Ok(tree[0] != 0)
 }
 
 // Whether frame k is free.
-pub fn test(tree: &[u16], k: usize) -> Tested
+pub fn test(tree: &[u16], k: usize) -> Result<bool, NotTested>
     ensures { TestSays tree.now k result }
 {
     let w = tree.len();
     if !bitmap_tree::is_full(w) {
-        return Tested::NotFull;
+        return Err(NotTested::NotFull);
     }
     if 15 * w < k {
-        return Tested::Outside;
+        return Err(NotTested::Outside);
     }
-    if bitmap_tree::read(tree, w + k) == 1 {
-        Tested::Free
-    } else {
-        Tested::Taken
-    }
+    Ok(bitmap_tree::read(tree, w + k) == 1)
 }
 
 // The lowest free frame at or above k.
-pub fn next(tree: &[u16], k: usize) -> NextFree
+pub fn next(tree: &[u16], k: usize) -> Result<usize, NoNext>
     ensures { NextSays tree.now k result }
 {
     let w = tree.len();
     if !bitmap_tree::is_full(w) {
-        return NextFree::NotFull;
+        return Err(NoNext::NotFull);
     }
     if 15 * w < k {
-        return NextFree::Outside;
+        return Err(NoNext::Outside);
     }
-    match bitmap_search::next_from(tree, k) {
-        Next::Frame(f) => NextFree::Frame(f),
-        Next::Nothing => NextFree::Nothing,
-        Next::Corrupt => NextFree::Corrupt,
-    }
+    Ok(bitmap_search::next_from(tree, k)?)
 }
 
 // Whether the summaries agree, and where not.
-pub fn check(tree: &[u16]) -> Checked
+#[tactic(auto, using(bitmap_tree::proofs::Fullness::full_bound, crate::proofs::Answers::no_lie, crate::proofs::Answers::lowest_lie))]
+pub fn check(tree: &[u16]) -> Result<(), Unsound>
     ensures { CheckSays tree.now result }
 {
     let w = tree.len();
     if !bitmap_tree::is_full(w) {
-        return Checked::NotFull;
+        return Err(Unsound::NotFull);
     }
     let p = bitmap_tree::first_lie(tree);
     if p == (w - 1) / 16 {
-        Checked::Sound
+        Ok(())
     } else {
-        Checked::Lie(p)
+        Err(Unsound::Lie(p))
     }
 }

@@ -1,4 +1,5 @@
 // Pseudo-random numbers, each made of the one before, and words made of them.
+ghost use Rattle.std.specs.Prelude.{◌<◌};
 
 // The number behind s.
 pub fn step(s: u64) -> u64 {
@@ -13,8 +14,11 @@ fn below(s: u64, n: usize) -> usize {
     (s / 1024) as usize % n
 }
 
-// A request that s picks: mostly one that changes the memory, and rarely `reset` or damage.
-pub fn request(s: u64) -> usize {
+// The place among fourteen requests of one that s picks: mostly one that changes the memory, and rarely
+// `reset` or damage.
+pub fn request(s: u64) -> usize
+    ensures { result < 14 }
+{
     let pick = below(s, 64);
     if pick < 14 {
         return pick;
@@ -28,7 +32,7 @@ pub fn request(s: u64) -> usize {
 // A number that s picks for a request: below n, or one of the two behind, or now and then one far from any.
 pub fn number(s: u64, n: usize) -> usize {
     if s % 64 == 5 {
-        return 18446744073709551615;
+        return usize::MAX;
     }
     below(s, n % 65536 + 2)
 }
@@ -42,34 +46,43 @@ pub fn small(s: u64, x: usize) -> usize {
     }
 }
 
-// A word that s picks: of density 0 any, of 1 mostly 0, of 2 mostly all ones, and of 3 always 0.
-fn word(s: u64, density: u64) -> u16 {
-    if density == 3 {
-        return 0;
+// Which words are picked.
+#[derive(Clone, Copy, Debug, PartialEq, Eq)]
+enum Density {
+    Any,
+    MostlyZero,
+    MostlyOnes,
+    Zero,
+}
+
+// A word that s picks.
+fn word(s: u64, density: Density) -> u16 {
+    match density {
+        Density::Zero => 0,
+        Density::MostlyZero if s / 256 % 8 != 0 => 0,
+        Density::MostlyOnes if s / 256 % 8 != 0 => 65535,
+        _ => (s / 32768 % 65536) as u16,
     }
-    if density == 0 || s / 256 % 8 == 0 {
-        return (s / 32768 % 65536) as u16;
-    }
-    if density == 1 { 0 } else { 65535 }
 }
 
 // The density of word i of w. The words with frames have one of the four, and the summaries above them are
 // any words, or always 0 too.
-fn density(i: usize, w: usize, seed: u64) -> u64 {
-    let d = seed % 4;
-    if d == 3 {
-        return 3;
+fn density_at(i: usize, w: usize, seed: u64) -> Density {
+    match seed % 4 {
+        3 => Density::Zero,
+        _ if i < w / 16 => Density::Any,
+        1 => Density::MostlyZero,
+        2 => Density::MostlyOnes,
+        _ => Density::Any,
     }
-    if i < w / 16 { 0 } else { d }
 }
 
 // Fills the memory.
 pub fn fill(tree: &mut [u16], seed: u64) {
     let mut s = seed;
-    let mut i: usize = 0;
-    while i < tree.len() {
+    let w = tree.len();
+    for i in 0..w {
         s = step(s);
-        tree[i] = word(s, density(i, tree.len(), seed));
-        i += 1;
+        tree[i] = word(s, density_at(i, w, seed));
     }
 }

@@ -4,26 +4,13 @@ use mathlib.Core.List.{List}
 use Prim.Native.Nat.{ℕ, ◌+◌, ◌-◌, ◌*◌, ◌/◌, ◌%◌, ◌≤◌, ◌<◌, min}
 use native.Mathlib.Decide.{ℕ_discrete}
 use native.Mathlib.Omega.{arith}
-use lib.ListN.{length, get_or, set, length-set}
-use lib.Seq.{get_or-set_same, get_or-set_other}
+use lib.ListN.{get_or}
 use Rattle.base.specs.Ranges.{Outside}
 use Rattle.bits16.specs.Bits.{bit}
 use Rattle.bitmap_tree.specs.Tree.{Summarised}
 use Rattle.bitmap_tree.specs.Writes.{Painted}
 use Rattle.bitmap_tree.proofs.Nodes.{bit_in}
 use Rattle.bitmap_range.specs.Levels.{Stored, Between, Noted}
-
--- one word more
-pub stored_next : (t t' : List ℕ) (p n x : ℕ) → p ≤ n → n < length t' → Stored t p n x t' → Stored t p (n + 1) x (set t' n x)
-stored_next t t' p n x l inb s = record {
-  long = length-set t' n x ∙ s.long;
-  inside = λ m g h. inside m g h (ℕ_discrete m n);
-  outside = λ m o. get_or-set_other t' n m x 0 (λ e. o (omega arith) (omega arith)) ∙ s.outside m (λ g h. o g (omega arith));
-}
-  where
-    inside : (m : ℕ) → p ≤ m → m < n + 1 → Dec (m ≡ n) → get_or (set t' n x) m 0 ≡ x
-    inside m g h (yes e) = rw e (get_or-set_same t' n x 0 inb)
-    inside m g h (no d) = get_or-set_other t' n m x 0 d ∙ s.inside m g (omega (arith, d))
 
 -- words of which each bit is v
 pub painted_words : (t t' : List ℕ) (p q x v : ℕ) → ((i : ℕ) → i < 16 → bit x i ≡ v) → min 1 x ≡ v → Stored t p q x t' → Painted t (16 * p + 1) (16 * q + 1) v t'

@@ -12,11 +12,7 @@ fn store(tree: &mut [u16], p: usize, q: usize, x: u16)
     requires { (p ≤ q) × (q ≤ length tree.old) }
     ensures { Stored tree.old p q x tree.new }
 {
-    let mut n = p;
-    while n < q {
-        tree[n] = x;
-        n += 1;
-    }
+    tree[p..q].fill(x);
 }
 
 // Gives v to every bit of the words from p up to q.
@@ -92,8 +88,9 @@ fn mend(tree: &mut [u16], lo: usize, hi: usize, v: u16)
 {
     let mut a = lo;
     let mut b = hi;
+    // A `while`: each step is to the parents of two nodes, and not to the next.
     while a < b {
-        let f = base::most(a, 1);
+        let f = a.max(1);
         note_level(tree, f, b, v);
         a = (f - 1) / 16;
         b = (b - 1) / 16;

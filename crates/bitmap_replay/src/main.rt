@@ -10,6 +10,7 @@
 
 #![tactic(auto)]
 
+use bitmap_sequences::Damaged;
 use std::fs::File;
 use std::io;
 use std::io::{BufWriter, Read, Write};
@@ -31,30 +32,20 @@ fn replay(out: &mut impl Write, bytes: &[u8]) -> io::Result<()> {
         return say_damaged(out, 0);
     }
     let count = bitmap_answers::u32_at(bytes, 0);
-    let end = bitmap_sequences::replay(bytes, count);
-    if end.damaged {
-        return say_damaged(out, end.at);
+    match bitmap_sequences::replay(bytes, count) {
+        Ok(end) => {
+            write!(out, "{count} sequences, {} requests: ", end.requests)?;
+            writeln!(
+                out,
+                "{} answers differ, {} frames differ",
+                end.answers, end.frames
+            )
+        }
+        Err(Damaged(at)) => say_damaged(out, at),
     }
-    tell(out, b"", count)?;
-    tell(out, b" sequences, ", end.requests)?;
-    tell(out, b" requests: ", end.answers)?;
-    tell(out, b" answers differ, ", end.frames)?;
-    say(out, b" frames differ\n")
 }
 
 // Writes a line on a file that is damaged at a byte.
 fn say_damaged(out: &mut impl Write, at: usize) -> io::Result<()> {
-    tell(out, b"the file is damaged at byte ", at)?;
-    say(out, b"\n")
-}
-
-// Writes words and a number.
-fn tell(out: &mut impl Write, text: &[u8], number: usize) -> io::Result<()> {
-    say(out, text)?;
-    write!(out, "{number}")
-}
-
-// Writes words.
-fn say(out: &mut impl Write, text: &[u8]) -> io::Result<()> {
-    out.write_all(text)
+    writeln!(out, "the file is damaged at byte {at}")
 }

@@ -1,201 +1,193 @@
-// Every function of bitmap_allocator behind one door, for the programs that test it: a number says which
-// request is made, and the answer is a number too: its kind, and 32 times the frame, the word or the
-// number of things that it tells, if it tells one.
+// Every function of bitmap_allocator and bitmap_looks behind one door, for the programs that test it: a
+// request is a value, and so is what it is answered.
 #![tactic(auto)]
 
-use bitmap_allocator::{Allocated, Freed, Ranged, RunTaken, Wiped};
-use bitmap_looks::{Checked, Counted, NextFree, SomeFree, Tested, Words};
+pub mod refusal;
 
-// The requests. bitmap_names has their names, and those of the answers, in this order.
-pub const WORDS_FOR: usize = 0;
+use bitmap_looks::Unsound;
+use refusal::Refusal;
+use std::fmt;
 
-pub const CAP: usize = 1;
+// What can be asked.
+#[derive(Clone, Copy, Debug, PartialEq, Eq)]
+pub enum Request {
+    WordsFor,
+    Cap,
+    CountFree,
+    Any,
+    Test,
+    Next,
+    Check,
+    Reset,
+    Alloc,
+    AllocContiguous,
+    Dealloc,
+    Insert,
+    Remove,
+    // Not a function of the library: writes a word past it, as damage would.
+    Put,
+}
 
-pub const COUNT_FREE: usize = 2;
+// Each request once.
+pub const REQUESTS: [Request; 14] = [
+    Request::WordsFor,
+    Request::Cap,
+    Request::CountFree,
+    Request::Any,
+    Request::Test,
+    Request::Next,
+    Request::Check,
+    Request::Reset,
+    Request::Alloc,
+    Request::AllocContiguous,
+    Request::Dealloc,
+    Request::Insert,
+    Request::Remove,
+    Request::Put,
+];
 
-pub const ANY: usize = 3;
+// No request has that name.
+#[derive(Clone, Copy, Debug, PartialEq, Eq)]
+pub struct NoRequest;
 
-pub const TEST: usize = 4;
+impl Request {
+    // Its name.
+    pub fn name(self) -> &'static str {
+        match self {
+            Request::WordsFor => "words_for",
+            Request::Cap => "cap",
+            Request::CountFree => "count_free",
+            Request::Any => "any",
+            Request::Test => "test",
+            Request::Next => "next",
+            Request::Check => "check",
+            Request::Reset => "reset",
+            Request::Alloc => "alloc",
+            Request::AllocContiguous => "alloc_contiguous",
+            Request::Dealloc => "dealloc",
+            Request::Insert => "insert",
+            Request::Remove => "remove",
+            Request::Put => "put",
+        }
+    }
+}
 
-pub const NEXT: usize = 5;
+impl TryFrom<&[u8]> for Request {
+    type Error = NoRequest;
 
-pub const CHECK: usize = 6;
+    fn try_from(name: &[u8]) -> Result<Request, NoRequest> {
+        for request in REQUESTS {
+            if request.name().as_bytes() == name {
+                return Ok(request);
+            }
+        }
+        Err(NoRequest)
+    }
+}
 
-pub const RESET: usize = 7;
+// What a request is answered that is not refused.
+#[derive(Clone, Copy, Debug, PartialEq, Eq)]
+pub enum Answer {
+    Number(usize),
+    Frame(usize),
+    Lie(usize),
+    Done,
+    Yes,
+    No,
+    Free,
+    Taken,
+    Sound,
+}
 
-pub const ALLOC: usize = 8;
+// Each kind of answer once.
+pub const ANSWERS: [Answer; 9] = [
+    Answer::Number(0),
+    Answer::Frame(0),
+    Answer::Lie(0),
+    Answer::Done,
+    Answer::Yes,
+    Answer::No,
+    Answer::Free,
+    Answer::Taken,
+    Answer::Sound,
+];
 
-pub const ALLOC_CONTIGUOUS: usize = 9;
+impl Answer {
+    // The name of its kind.
+    pub fn name(self) -> &'static str {
+        match self {
+            Answer::Number(_) => "number",
+            Answer::Frame(_) => "frame",
+            Answer::Lie(_) => "lie in word",
+            Answer::Done => "done",
+            Answer::Yes => "yes",
+            Answer::No => "no",
+            Answer::Free => "free",
+            Answer::Taken => "taken",
+            Answer::Sound => "sound",
+        }
+    }
+}
 
-pub const DEALLOC: usize = 10;
-
-pub const INSERT: usize = 11;
-
-pub const REMOVE: usize = 12;
-
-// Not a function of the library: writes a word past it, as damage would.
-pub const PUT: usize = 13;
-
-// The kinds of answers.
-pub const NUMBER: usize = 0;
-
-pub const FRAME: usize = 1;
-
-pub const LIE: usize = 2;
-
-pub const DONE: usize = 3;
-
-pub const YES: usize = 4;
-
-pub const NO: usize = 5;
-
-pub const FREE: usize = 6;
-
-pub const TAKEN: usize = 7;
-
-pub const SOUND: usize = 8;
-
-pub const NO_SIZE: usize = 9;
-
-pub const NOTHING: usize = 10;
-
-pub const NO_ROOM: usize = 11;
-
-pub const CORRUPT: usize = 12;
-
-pub const EMPTY: usize = 13;
-
-pub const REVERSED: usize = 14;
-
-pub const NOT_TAKEN: usize = 15;
-
-pub const OUTSIDE: usize = 16;
-
-pub const NOT_FULL: usize = 17;
-
-// An answer of a kind that tells a number.
-pub fn with(kind: usize, number: usize) -> usize {
-    number % 288230376151711744 * 32 + kind % 32
+impl fmt::Display for Answer {
+    fn fmt<W: fmt::Write>(&self, f: &mut fmt::Formatter<W>) -> fmt::Result {
+        match *self {
+            Answer::Number(n) => write!(f, "{n}"),
+            Answer::Frame(k) => write!(f, "frame {k}"),
+            Answer::Lie(p) => write!(f, "lie in word {p}"),
+            other => f.write_str(other.name()),
+        }
+    }
 }
 
 // Makes a request, with up to two numbers.
-pub fn make(tree: &mut [u16], request: usize, a: usize, b: usize) -> usize {
+pub fn make(tree: &mut [u16], request: Request, a: usize, b: usize) -> Result<Answer, Refusal> {
     match request {
-        WORDS_FOR => words(bitmap_looks::words_for(a)),
-        CAP => counted(bitmap_looks::cap(tree)),
-        COUNT_FREE => counted(bitmap_looks::count_free(tree)),
-        ANY => some_free(bitmap_looks::any(tree)),
-        TEST => tested(bitmap_looks::test(tree, a)),
-        NEXT => next_free(bitmap_looks::next(tree, a)),
-        CHECK => checked(bitmap_looks::check(tree)),
-        RESET => wiped(bitmap_allocator::reset(tree)),
-        ALLOC => allocated(bitmap_allocator::alloc(tree)),
-        ALLOC_CONTIGUOUS => run_taken(bitmap_allocator::alloc_contiguous(tree, a, b)),
-        DEALLOC => freed(bitmap_allocator::dealloc(tree, a)),
-        INSERT => ranged(bitmap_allocator::insert(tree, a, b)),
-        REMOVE => ranged(bitmap_allocator::remove(tree, a, b)),
-        _ => put(tree, a, b),
+        Request::WordsFor => match bitmap_looks::words_for(a) {
+            Some(w) => Ok(Answer::Number(w)),
+            None => Err(Refusal::NoSize),
+        },
+        Request::Cap => Ok(Answer::Number(bitmap_looks::cap(tree)?)),
+        Request::CountFree => Ok(Answer::Number(bitmap_looks::count_free(tree)?)),
+        Request::Any => match bitmap_looks::any(tree)? {
+            true => Ok(Answer::Yes),
+            false => Ok(Answer::No),
+        },
+        Request::Test => match bitmap_looks::test(tree, a)? {
+            true => Ok(Answer::Free),
+            false => Ok(Answer::Taken),
+        },
+        Request::Next => Ok(Answer::Frame(bitmap_looks::next(tree, a)?)),
+        Request::Check => match bitmap_looks::check(tree) {
+            Ok(()) => Ok(Answer::Sound),
+            Err(Unsound::Lie(p)) => Ok(Answer::Lie(p)),
+            Err(Unsound::NotFull) => Err(Refusal::NotFull),
+        },
+        Request::Alloc => Ok(Answer::Frame(bitmap_allocator::alloc(tree)?)),
+        Request::AllocContiguous => Ok(Answer::Frame(bitmap_allocator::alloc_contiguous(
+            tree, a, b,
+        )?)),
+        _ => change(tree, request, a, b),
     }
 }
 
-fn words(answer: Words) -> usize {
-    match answer {
-        Words::Count(w) => with(NUMBER, w),
-        Words::NoSize => NO_SIZE,
+// The same, for a request that tells no more than that it is done.
+fn change(tree: &mut [u16], request: Request, a: usize, b: usize) -> Result<Answer, Refusal> {
+    match request {
+        Request::Reset => bitmap_allocator::reset(tree)?,
+        Request::Dealloc => bitmap_allocator::dealloc(tree, a)?,
+        Request::Insert => bitmap_allocator::insert(tree, a, b)?,
+        Request::Remove => bitmap_allocator::remove(tree, a, b)?,
+        _ => put(tree, a, b)?,
     }
+    Ok(Answer::Done)
 }
 
-fn counted(answer: Counted) -> usize {
-    match answer {
-        Counted::Frames(n) => with(NUMBER, n),
-        Counted::NotFull => NOT_FULL,
+// Writes a word past the library.
+fn put(tree: &mut [u16], i: usize, word: usize) -> Result<(), Refusal> {
+    if tree.len() <= i {
+        return Err(Refusal::Outside);
     }
-}
-
-fn some_free(answer: SomeFree) -> usize {
-    match answer {
-        SomeFree::Yes => YES,
-        SomeFree::No => NO,
-        SomeFree::NotFull => NOT_FULL,
-    }
-}
-
-fn tested(answer: Tested) -> usize {
-    match answer {
-        Tested::Free => FREE,
-        Tested::Taken => TAKEN,
-        Tested::Outside => OUTSIDE,
-        Tested::NotFull => NOT_FULL,
-    }
-}
-
-fn next_free(answer: NextFree) -> usize {
-    match answer {
-        NextFree::Frame(f) => with(FRAME, f),
-        NextFree::Nothing => NOTHING,
-        NextFree::Corrupt => CORRUPT,
-        NextFree::Outside => OUTSIDE,
-        NextFree::NotFull => NOT_FULL,
-    }
-}
-
-fn checked(answer: Checked) -> usize {
-    match answer {
-        Checked::Sound => SOUND,
-        Checked::Lie(p) => with(LIE, p),
-        Checked::NotFull => NOT_FULL,
-    }
-}
-
-fn wiped(answer: Wiped) -> usize {
-    match answer {
-        Wiped::Done => DONE,
-        Wiped::NotFull => NOT_FULL,
-    }
-}
-
-fn allocated(answer: Allocated) -> usize {
-    match answer {
-        Allocated::Frame(k) => with(FRAME, k),
-        Allocated::NoRoom => NO_ROOM,
-        Allocated::Corrupt => CORRUPT,
-        Allocated::NotFull => NOT_FULL,
-    }
-}
-
-fn run_taken(answer: RunTaken) -> usize {
-    match answer {
-        RunTaken::At(s) => with(FRAME, s),
-        RunTaken::NoRoom => NO_ROOM,
-        RunTaken::Corrupt => CORRUPT,
-        RunTaken::Empty => EMPTY,
-        RunTaken::NotFull => NOT_FULL,
-    }
-}
-
-fn freed(answer: Freed) -> usize {
-    match answer {
-        Freed::Done => DONE,
-        Freed::NotTaken => NOT_TAKEN,
-        Freed::Outside => OUTSIDE,
-        Freed::NotFull => NOT_FULL,
-    }
-}
-
-fn ranged(answer: Ranged) -> usize {
-    match answer {
-        Ranged::Done => DONE,
-        Ranged::Empty => EMPTY,
-        Ranged::Reversed => REVERSED,
-        Ranged::Outside => OUTSIDE,
-        Ranged::NotFull => NOT_FULL,
-    }
-}
-
-fn put(tree: &mut [u16], i: usize, word: usize) -> usize {
-    if i < tree.len() {
-        tree[i] = (word % 65536) as u16;
-        return DONE;
-    }
-    OUTSIDE
+    tree[i] = (word % 65536) as u16;
+    Ok(())
 }

@@ -13,9 +13,12 @@ use Rattle.bits16.proofs.Doubling.{low_bit, high_bit}
 use Rattle.bitmap_tree.specs.Tree.{node_bit, free, Full, Agree}
 use Rattle.bitmap_tree.proofs.Nodes.{child_bit, parent_none, parent_some}
 use Rattle.bitmap_tree.proofs.Fullness.{full_whole}
-use Rattle.bitmap_search.specs.Found.{IsNext, NoneFrom}
+use Rattle.std.specs.Prelude.{Err}
+use Rattle.bitmap_search.specs.declared.Missed.{Missed}
+use Rattle.bitmap_search.specs.declared.Missed.TheVariants.{Nothing, Corrupt}
+use Rattle.bitmap_search.specs.Found.{IsNext, NoneFrom, NextSays}
 use Rattle.bitmap_runs.specs.Runs.{Run, LowestRun}
-use Rattle.bitmap_runs.specs.Short.{Scanning, GoesOn}
+use Rattle.bitmap_runs.specs.Short.{Scanning, GoesOn, LookSays}
 
 -- ---- two words of frames
 
@@ -144,7 +147,7 @@ module _ (t : List ℕ) (n a p : ℕ) (full : Full (length t)) (some : 0 < n) (f
           absurd (omega arith)
 
   -- nothing is free from word p on
-  pub scan_none : (Agree t → NoneFrom t (16 * p + 1 - length t)) → Agree t → (x : ℕ) → Run t n a x → ⊥
+  scan_none : (Agree t → NoneFrom t (16 * p + 1 - length t)) → Agree t → (x : ℕ) → Run t n a x → ⊥
   scan_none none g x r =
       let b = c.none g x r in
       let e = r.fits in
@@ -152,10 +155,11 @@ module _ (t : List ℕ) (n a p : ℕ) (full : Full (length t)) (some : 0 < n) (f
       let zero = none g x (omega arith) (omega arith) in
       omega arith
 
+  -- why no frame was found is why no run is
+  pub scan_err : (e : Missed) → NextSays t (16 * p + 1 - length t) (Err e) → LookSays t n a p (Err e)
+  scan_err Nothing none = scan_none none
+  scan_err Corrupt lie = lie
+
 -- the first word of frames
 pub scan_start : (t : List ℕ) (n a : ℕ) → Full (length t) → Scanning t n a ((length t - 1) / 16)
 scan_start t n a f = record { low = omega arith; none = λ g x r. let w = full_whole (length t) f in omega arith }
-
--- past the last word there is no run
-pub scan_end : (t : List ℕ) (n a p : ℕ) → 0 < n → length t ≤ p → Scanning t n a p → Agree t → (x : ℕ) → Run t n a x → ⊥
-scan_end t n a p some h c g x r = let b = c.none g x r in let e = r.fits in omega arith

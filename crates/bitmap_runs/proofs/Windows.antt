@@ -14,7 +14,7 @@ use Rattle.bits16.proofs.Lengths.{full_bit}
 use Rattle.bitmap_tree.specs.Tree.{node_bit, cap, Full, Agree}
 use Rattle.bitmap_tree.proofs.Nodes.{bit_in}
 use Rattle.bitmap_tree.proofs.Fullness.{pow_le}
-use Rattle.bitmap_search.specs.Found.{IsNext, NoneFrom}
+use Rattle.bitmap_search.specs.Found.{IsNext}
 use Rattle.bitmap_runs.specs.Runs.{Run, LowestRun, Rounded}
 
 -- ---- alignment
@@ -78,9 +78,6 @@ pub record Backing (t : List ℕ) (a b e : ℕ) : Type 0 where
   pub high : e ≤ b
   pub rest : (k : ℕ) → a ≤ k → e ≤ k → k < b → node_bit t k ≡ 1
 
-pub back_start : (t : List ℕ) (a b : ℕ) → 0 < b → Backing t a b b
-back_start t a b p = record { pos = p; high = omega arith; rest = λ k l g h. absurd (omega arith) }
-
 module _ (t : List ℕ) (a b e i : ℕ) (pos : 0 < a) (more : a < e) (c : Backing t a b e) (s : SetSince (get_or t ((e - 2) / 16) 0) ((e - 2) % 16 + 1) i) where
   -- one word further back
   pub back_step : Backing t a b (16 * ((e - 2) / 16) + 1 + i)
@@ -135,17 +132,6 @@ pub record Searching (t : List ℕ) (n a k : ℕ) : Type 0 where
   pub top : k ≤ cap t
   pub none : Agree t → (x : ℕ) → Run t n a x → k ≤ x
 
-pub search_start : (t : List ℕ) (n a : ℕ) → Searching t n a 0
-search_start t n a = record { top = omega arith; none = λ g x r. omega arith }
-
--- nothing is free from k on
-pub search_none : (t : List ℕ) (n a k : ℕ) → 0 < n → Searching t n a k → (Agree t → NoneFrom t k) → Agree t → (x : ℕ) → Run t n a x → ⊥
-search_none t n a k some c none g x r =
-    let f = r.fits in
-    let one = r.clear x (omega arith) (omega arith) in
-    let zero = none g x (c.none g x r) (omega arith) in
-    omega arith
-
 module _ (t : List ℕ) (n a k f s : ℕ) (full : Full (length t)) (some : 0 < n) (c : Searching t n a k) (rd : Rounded f (2 ^ min a 60) s) (nx : IsNext t k f) where
   -- a run starts at a free frame, and at a multiple
   pub from_next : Agree t → (x : ℕ) → Run t n a x → s ≤ x
@@ -196,7 +182,3 @@ module _ (t : List ℕ) (n a k f s : ℕ) (full : Full (length t)) (some : 0 < n
             let back : length t + (q - 1 - length t) ≡ q - 1 = omega arith in
             let one : node_bit t (q - 1) ≡ 1 = rw back at (r.clear (q - 1 - length t) (omega arith) (omega arith)) in
             absurd (y.fails past one)
-
--- past the last frame there is no run
-pub search_end : (t : List ℕ) (n a k : ℕ) → 0 < n → cap t ≤ k → Searching t n a k → Agree t → (x : ℕ) → Run t n a x → ⊥
-search_end t n a k some h c g x r = let l = c.none g x r in let e = r.fits in omega arith

@@ -1,7 +1,8 @@
 -- Runs of free frames. Assumes nothing.
-use Rattle.std.specs.Prelude.{◌≡◌, List, ℕ, ◌+◌, ◌%◌, ◌^◌, ◌<◌, ◌≤◌}
+use Rattle.std.specs.Prelude.{◌≡◌, List, ℕ, ◌+◌, ◌%◌, ◌^◌, ◌<◌, ◌≤◌, Result, Ok, Err}
 use Rattle.bitmap_tree.specs.Tree.{free, cap, Agree}
-use Rattle.bitmap_runs.specs.declared.Searched.{Searched}
+use Rattle.bitmap_search.specs.declared.Missed.{Missed}
+use Rattle.bitmap_search.specs.declared.Missed.TheVariants.{Nothing, Corrupt}
 
 -- the n frames from base on are free, and base is a multiple of 2 ^ a
 pub record Run (t : List ℕ) (n a base : ℕ) : Type 0 where
@@ -21,7 +22,7 @@ pub record Rounded (f al s : ℕ) : Type 0 where
   pub aligned : s % al ≡ 0
   pub least : (x : ℕ) → f ≤ x → x % al ≡ 0 → s ≤ x
 
-abbrev pub SearchSays : List ℕ → ℕ → ℕ → Searched → Type 0
-SearchSays t n a (Searched.At s) = LowestRun t n a s
-SearchSays t n a Searched.Nowhere = Agree t → (x : ℕ) → Run t n a x → ⊥
-SearchSays t n a Searched.Corrupt = Agree t → ⊥
+abbrev pub SearchSays : List ℕ → ℕ → ℕ → Result ℕ Missed → Type 0
+SearchSays t n a (Ok s) = LowestRun t n a s
+SearchSays t n a (Err Nothing) = Agree t → (x : ℕ) → Run t n a x → ⊥
+SearchSays t n a (Err Corrupt) = Agree t → ⊥

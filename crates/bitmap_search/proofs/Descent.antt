@@ -29,13 +29,6 @@ pub record Descending (t : List ℕ) (n₀ n : ℕ) : Type 0 where
   pub some : Some t n
   pub low : (h : ℕ) → Height (length t) n₀ h → Lower t n₀ n h
 
-pub descend_start : (t : List ℕ) (n : ℕ) → n ≤ 16 * length t → Some t n → Descending t n n
-descend_start t n l s = record {
-  high = l;
-  some = s;
-  low = λ h a. record { g = h; at = a; back = λ m x. x; keep = λ w m u l s x. x };
-}
-
 module _ (t : List ℕ) (n₀ n i : ℕ) (inside : n < length t) (l : Lowest (get_or t n 0) 0 i) (some : i < 16) where
   lower_step : (h g : ℕ) → Height (length t) n g → ((m : ℕ) → n ≤ up g m → n₀ ≤ up h m)
       → (Agree t → (m : ℕ) → length t ≤ m → m ≤ 16 * length t → node_bit t m ≡ 1 → n₀ ≤ up h m → n ≤ up g m) → Lower t n₀ (16 * n + 1 + i) h

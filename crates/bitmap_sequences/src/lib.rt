@@ -2,15 +2,11 @@
 // program that prints what came of it; nothing here prints.
 #![tactic(auto)]
 
-use bitmap_allocator::Wiped;
-
 // What was read and compared so far.
-#[derive(Drop)]
+#[derive(Clone, Copy, Debug, PartialEq, Eq)]
 pub struct Tally {
     // Where the next part of the file stands.
     pub at: usize,
-    // Whether that part is damaged.
-    pub damaged: bool,
     // How many requests were replayed.
     pub requests: usize,
     // How many answers differ.
@@ -19,158 +15,91 @@ pub struct Tally {
     pub frames: usize,
 }
 
+// The file is damaged: where the first part stands that is.
+#[derive(Clone, Copy, Debug, PartialEq, Eq)]
+pub struct Damaged(pub usize);
+
 impl Tally {
-    // The same, with the next part so many bytes further on.
-    fn passed(mut self, bytes: usize) -> Self {
-        self.at = bitmap_answers::sum(self.at, bytes);
-        self
-    }
-
-    // The same, with the next part damaged.
-    fn spoilt(mut self) -> Self {
-        self.damaged = true;
-        self
-    }
-
-    // The same, with one request more.
-    fn asked(mut self) -> Self {
-        self.requests = bitmap_answers::sum(self.requests, 1);
-        self
-    }
-
-    // The same, with one answer more that differs.
-    fn missed_answer(mut self) -> Self {
-        self.answers = bitmap_answers::sum(self.answers, 1);
-        self
-    }
-
-    // The same, with one frame more that differs.
-    fn missed_frame(mut self) -> Self {
-        self.frames = bitmap_answers::sum(self.frames, 1);
-        self
+    // The same, with the next part so many bytes further on, if the file has them.
+    fn passed(mut self, bytes: &[u8], many: usize) -> Result<Self, Damaged> {
+        let at = self.at.saturating_add(many);
+        if bytes.len() < at {
+            return Err(Damaged(self.at));
+        }
+        self.at = at;
+        Ok(self)
     }
 }
 
 // Replays so many sequences; what is left of the file behind them is damage.
-pub fn replay(bytes: &[u8], count: usize) -> Tally {
-    ended(bytes, sequences(bytes, count))
-}
-
-// The tally, with the file damaged where something is left of it.
-fn ended(bytes: &[u8], tally: Tally) -> Tally {
-    if bytes.len() == tally.at {
-        tally
-    } else {
-        tally.spoilt()
-    }
-}
-
-// Replays so many sequences.
-fn sequences(bytes: &[u8], count: usize) -> Tally {
+pub fn replay(bytes: &[u8], count: usize) -> Result<Tally, Damaged> {
     let mut tally = Tally {
         at: 4,
-        damaged: false,
         requests: 0,
         answers: 0,
         frames: 0,
     };
-    let mut s = 0;
-    while s < count {
-        tally = sequence(bytes, tally);
-        if tally.damaged {
-            return tally;
-        }
-        s += 1;
+    for _ in 0..count {
+        tally = sequence(bytes, tally)?;
     }
-    tally
+    if bytes.len() == tally.at {
+        Ok(tally)
+    } else {
+        Err(Damaged(tally.at))
+    }
 }
 
 // Replays the sequence that stands where the tally says, in memory for up to 256 frames. Every bit of
 // it is set at first, so that `reset` has something to wipe.
-fn sequence(bytes: &[u8], tally: Tally) -> Tally {
-    if bytes.len() < bitmap_answers::sum(tally.at, 8) {
-        return tally.spoilt();
-    }
+fn sequence(bytes: &[u8], tally: Tally) -> Result<Tally, Damaged> {
+    let after = tally.passed(bytes, 8)?;
     let mut memory = [65535u16; 17];
     let frames = bitmap_answers::u32_at(bytes, tally.at);
-    let w = bitmap_answers::words(frames);
-    if memory.len() < w {
-        return tally.spoilt();
+    let w = match bitmap_looks::words_for(frames) {
+        Some(w) if w <= memory.len() => w,
+        _ => return Err(Damaged(tally.at)),
+    };
+    if bitmap_allocator::reset(&mut memory[0..w]).is_err() {
+        return Err(Damaged(tally.at));
     }
-    on_tree(&mut memory[0..w], bytes, frames, tally)
-}
-
-// Replays a sequence on a tree of so many frames, whatever its words hold. Where there are no words
-// there is no such tree, and the sequence is damaged.
-fn on_tree(tree: &mut [u16], bytes: &[u8], frames: usize, tally: Tally) -> Tally {
-    match bitmap_allocator::reset(tree) {
-        Wiped::NotFull => tally.spoilt(),
-        Wiped::Done => {
-            let count = bitmap_answers::u32_at(bytes, bitmap_answers::sum(tally.at, 4));
-            let after = requests(tree, bytes, count, tally.passed(8));
-            if after.damaged {
-                return after;
-            }
-            all_frames(tree, bytes, frames, after)
-        }
-    }
+    let count = bitmap_answers::u32_at(bytes, tally.at.saturating_add(4));
+    let asked = requests(&mut memory[0..w], bytes, count, after)?;
+    all_frames(&memory[0..w], bytes, frames, asked)
 }
 
 // Replays so many requests.
-fn requests(tree: &mut [u16], bytes: &[u8], count: usize, before: Tally) -> Tally {
+fn requests(tree: &mut [u16], bytes: &[u8], count: usize, before: Tally) -> Result<Tally, Damaged> {
     let mut tally = before;
-    let mut q = 0;
-    while q < count {
-        tally = request(tree, bytes, tally);
-        if tally.damaged {
-            return tally;
-        }
-        q += 1;
+    for _ in 0..count {
+        tally = request(tree, bytes, tally)?;
     }
-    tally
+    Ok(tally)
 }
 
 // Replays the request that stands where the tally says.
-fn request(tree: &mut [u16], bytes: &[u8], tally: Tally) -> Tally {
+fn request(tree: &mut [u16], bytes: &[u8], tally: Tally) -> Result<Tally, Damaged> {
     let at = tally.at;
-    if bytes.len() < bitmap_answers::sum(at, 16) {
-        return tally.spoilt();
+    let mut after = tally.passed(bytes, 16)?;
+    let Some(request) = bitmap_answers::request(bitmap_answers::u32_at(bytes, at)) else {
+        return Err(Damaged(at));
+    };
+    let a = bitmap_answers::u32_at(bytes, at.saturating_add(4));
+    let b = bitmap_answers::u32_at(bytes, at.saturating_add(8));
+    let expected = bitmap_answers::u32_at(bytes, at.saturating_add(12));
+    after.requests = after.requests.saturating_add(1);
+    if bitmap_answers::ask(tree, request, a, b) != Some(expected) {
+        after.answers = after.answers.saturating_add(1);
     }
-    let kind = bitmap_answers::u32_at(bytes, at);
-    if 5 < kind {
-        return tally.spoilt();
-    }
-    let a = bitmap_answers::u32_at(bytes, bitmap_answers::sum(at, 4));
-    let b = bitmap_answers::u32_at(bytes, bitmap_answers::sum(at, 8));
-    let expected = bitmap_answers::u32_at(bytes, bitmap_answers::sum(at, 12));
-    let got = bitmap_answers::ask(tree, kind, a, b);
-    let after = tally.asked().passed(16);
-    if got == expected {
-        return after;
-    }
-    after.missed_answer()
+    Ok(after)
 }
 
 // Compares all frames with those that stand where the tally says.
-fn all_frames(tree: &[u16], bytes: &[u8], count: usize, before: Tally) -> Tally {
-    if bytes.len() < bitmap_answers::sum(before.at, count / 8) {
-        return before.spoilt();
+fn all_frames(tree: &[u16], bytes: &[u8], count: usize, before: Tally) -> Result<Tally, Damaged> {
+    let mut after = before.passed(bytes, count / 8)?;
+    for k in 0..count {
+        if bitmap_looks::test(tree, k) != Ok(bitmap_answers::bit_at(bytes, before.at, k)) {
+            after.frames = after.frames.saturating_add(1);
+        }
     }
-    let mut tally = before;
-    let mut k = 0;
-    while k < count {
-        tally = frame(tree, bytes, k, tally);
-        k += 1;
-    }
-    tally.passed(count / 8)
-}
-
-// Compares frame k: 1 is free, and 0 is taken.
-fn frame(tree: &[u16], bytes: &[u8], k: usize, tally: Tally) -> Tally {
-    let expected = bitmap_answers::bit_at(bytes, tally.at, k);
-    let got = bitmap_answers::free_at(tree, k);
-    if got == expected {
-        return tally;
-    }
-    tally.missed_frame()
+    Ok(after)
 }

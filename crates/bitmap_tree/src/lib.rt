@@ -10,15 +10,17 @@ ghost use Rattle.base.specs.Search.{Stops};
 ghost use Rattle.bitmap_tree.specs.Tree.{node_bit, free, cap, Full, Honest};
 ghost use Rattle.bitmap_tree.specs.Writes.{Painted, Climbed, Changed, Summary};
 
+// The words do not make a full tree: what the functions on lent words answer of such a length.
+#[derive(Clone, Copy, Debug, PartialEq, Eq)]
+pub struct NotFull;
+
 // Whether w words make a full tree.
 pub fn is_full(w: usize) -> bool
     ensures { Says result (Full w) }
 {
     let mut s: usize = 0;
-    let mut d: usize = 0;
-    while d < 15 {
+    for _depth in 0..15usize {
         s = 16 * s + 1;
-        d += 1;
         if s == w {
             return true;
         }
@@ -54,6 +56,7 @@ pub fn climb(tree: &mut [u16], j: usize, v: u16)
 {
     let mut n = j;
     let mut u = v;
+    // A `while`: each step is to the parent of a node, and not to the next.
     while n > 0 {
         let p = (n - 1) / 16;
         let old = tree[p];
@@ -84,11 +87,9 @@ fn summary(tree: &[u16], p: usize) -> u16
     ensures { Summary tree.now p result }
 {
     let mut r: u16 = 0;
-    let mut i: usize = 0;
-    while i < 16 {
+    for i in 0..16 {
         let s = bits16::some(tree[16 * p + 1 + i]);
         r = bits16::append(r, i, s);
-        i += 1;
     }
     r
 }
@@ -100,14 +101,12 @@ pub fn first_lie(tree: &[u16]) -> usize
     ensures { Stops (Honest tree.now) 0 ((length tree.now - 1) / 16) result }
 {
     let end = (tree.len() - 1) / 16;
-    let mut p: usize = 0;
-    while p < end {
+    for p in 0..end {
         if summary(tree, p) != tree[p] {
             return p;
         }
-        p += 1;
     }
-    p
+    end
 }
 
 // How many frames are free, a word at a time.
@@ -115,11 +114,9 @@ pub fn count(tree: &[u16]) -> usize
     requires { Full (length tree.now) }
     ensures { result ≡ how_many (free tree.now) (cap tree.now) }
 {
-    let mut p = (tree.len() - 1) / 16;
     let mut total: usize = 0;
-    while p < tree.len() {
+    for p in (tree.len() - 1) / 16..tree.len() {
         total += bits16::ones(tree[p]) as usize;
-        p += 1;
     }
     total
 }

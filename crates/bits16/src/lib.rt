@@ -101,8 +101,9 @@ fn runs_of(x: u32, n: usize) -> u32
 {
     let mut m = x;
     let mut k: usize = 1;
+    // A `while`: k grows by as much as is known already, and not by one.
     while k < n {
-        let d = base::least(k, n - k);
+        let d = k.min(n - k);
         m = m & (m >> d);
         k += d;
     }

@@ -1,9 +1,10 @@
 -- A call lies in `len` bytes from `from` on. It is one request, of 33 bytes, or a list: the byte 255, and behind it its members, requests of
 -- 33 bytes each, one behind the other. Assumes nothing.
-use Rattle.std.specs.Prelude.{◌≡◌, Bool, true, false, List, ℕ, ◌+◌, ◌*◌, ◌≤◌, ◌<◌, get_or, ltb, eqb}
+use Rattle.std.specs.Prelude.{◌≡◌, Bool, true, false, List, ℕ, ◌+◌, ◌*◌, ◌≤◌, ◌<◌, get_or, ltb, eqb, Result, Ok, Err}
 use Rattle.base.specs.Choices.{both}
 use Rattle.request_bytes.specs.Requests.{Means, request_at}
 use Rattle.call_bytes.specs.declared.Shape.{Shape}
+use Rattle.call_bytes.specs.declared.Malformed.{Malformed}
 
 -- the call is a list
 unfoldable pub is_list : List ℕ → ℕ → ℕ → Bool
@@ -45,8 +46,8 @@ abbrev pub Wrong : Bool → List ℕ → ℕ → ℕ → ℕ → Type 0
 Wrong false s from len i = (i ≡ 0) × (len ≡ 33 → WellFormed s from → ⊥)
 Wrong true s from len i = Lowest s from len i
 
--- what a shape says of a call
-abbrev pub ShapeSays : List ℕ → ℕ → ℕ → Shape → Type 0
-ShapeSays s from len Shape.One = Single s from len
-ShapeSays s from len (Shape.List n) = Several s from len n
-ShapeSays s from len (Shape.Malformed i) = Wrong (is_list s from len) s from len i
+-- what a shape says of a call, or the number of what is malformed
+abbrev pub ShapeSays : List ℕ → ℕ → ℕ → Result Shape Malformed → Type 0
+ShapeSays s from len (Ok Shape.One) = Single s from len
+ShapeSays s from len (Ok (Shape.List n)) = Several s from len n
+ShapeSays s from len (Err e) = Wrong (is_list s from len) s from len e.0

@@ -1,8 +1,8 @@
 -- A sequence of calls: items one behind the other, up to the end of the bytes. An item is the asker's number (8 bytes), the length of the call
 -- (8 bytes), both little-endian, and the bytes of the call. Assumes nothing.
-use Rattle.std.specs.Prelude.{◌≡◌, List, [], ◌∷◌, ℕ, ◌+◌, ◌≤◌, ◌<◌, length}
+use Rattle.std.specs.Prelude.{◌≡◌, List, [], ◌∷◌, ℕ, ◌+◌, ◌≤◌, ◌<◌, length, Result, Ok, Err}
 use Rattle.config_bytes.specs.Fields.{le64}
-use Rattle.call_bytes.specs.declared.Framing.{Framing}
+use Rattle.call_bytes.specs.declared.Broken.{Broken}
 
 -- who asks, and where the bytes of the call are
 pub record Item : Type 0 where
@@ -34,7 +34,7 @@ pub record Items (s : List ℕ) (n : ℕ) : Type 0 where
   pub framed : Framed s 0 items
   pub count : length items ≡ n
 
--- what a framing says of the bytes
-abbrev pub FramingSays : List ℕ → Framing → Type 0
-FramingSays s (Framing.Whole n) = Items s n
-FramingSays s (Framing.Broken q) = Breaks s 0 q
+-- what the number of items says of the bytes, or the place of the first that is not whole
+abbrev pub FramingSays : List ℕ → Result ℕ Broken → Type 0
+FramingSays s (Ok n) = Items s n
+FramingSays s (Err e) = Breaks s 0 e.0

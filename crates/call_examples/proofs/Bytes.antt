@@ -11,7 +11,7 @@ use Rattle.machine.specs.declared.Which.TheVariants.{Processors, Devices}
 use Rattle.machine.specs.declared.Request.{Request}
 use Rattle.machine.specs.declared.Request.TheVariants.{AddZone, RemoveZone, RemoveZoneWhole, Insert, Remove, Translate, Alloc, AllocContiguous, Dealloc, DeallocContiguous}
 use Rattle.request_bytes.specs.declared.Numbers.{Numbers}
-use Rattle.request_bytes.specs.declared.Read.{Read}
+use Rattle.std.specs.Prelude.{Some}
 use Rattle.request_bytes.specs.Requests.{numbers_of, numbers_at, Means, ReadSays}
 use Rattle.request_bytes.proofs.Laws.{numbers_once}
 use Rattle.request_bytes.proofs.Theorems.{means_request}
@@ -38,13 +38,13 @@ back_behind : (n : Numbers) → numbers_at (255 ∷ of_numbers n) 1 ≡ n
 unfolding numbers_at le64 le32 le16
 back_behind n = numbers_once (numbers_at (255 ∷ of_numbers n) 1) n refl (omega arith) (omega arith) (omega arith) (omega arith)
 
-pub reads_alone : (q : Request) → ReadSays (alone q) 0 (Read.Is q)
+pub reads_alone : (q : Request) → ReadSays (alone q) 0 (Some q)
 reads_alone q = (means_request means, means)
   where
     means : Means (alone q) 0 q
     means = record { whole = lit≤ tt; numbers = back (numbers_of q) }
 
-pub reads_listed : (q : Request) → ReadSays (listed q) 1 (Read.Is q)
+pub reads_listed : (q : Request) → ReadSays (listed q) 1 (Some q)
 reads_listed q = (means_request means, means)
   where
     means : Means (listed q) 1 q

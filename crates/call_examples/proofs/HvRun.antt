@@ -9,7 +9,7 @@ use Rattle.config_bytes.specs.Fields.{le16, le32, le64}
 use Rattle.machine.specs.declared.Request.{Request}
 use Rattle.machine.specs.declared.Request.TheVariants.{AddZone}
 use Rattle.machine.specs.declared.Answer.{Answer}
-use Rattle.request_bytes.specs.declared.Read.{Read}
+use Rattle.std.specs.Prelude.{Some, Ok, Err}
 use Rattle.request_bytes.specs.Requests.{numbers_at, request_of, request_at, Means, ReadSays}
 use Rattle.call_bytes.specs.Calls.{is_list}
 use Rattle.call_bytes.specs.Framing.{item_at, behind, Framed.Ends, Framed.Goes, Breaks.Here}
@@ -18,7 +18,7 @@ use Rattle.hv_state.proofs.Serving.{one_served}
 use Rattle.hv_calls.specs.declared.Replied.{Replied}
 use Rattle.hv_calls.specs.Calling.{ReplySays}
 use Rattle.run_items.specs.Running.{Performed.Over, Performed.Next}
-use Rattle.hv_run.specs.declared.Ran.{Ran}
+use Rattle.hv_run.specs.declared.NotRun.{NotRun}
 use Rattle.hv_run.specs.Sequence.{RanSays}
 use Rattle.request_examples.proofs.RequestBytes.{request}
 use Rattle.machine_examples.proofs.HvZones.{add_zone_done}
@@ -40,7 +40,7 @@ replies = 0 ∷ 0 ∷ 0 ∷ 0 ∷ 0 ∷ 0 ∷ 0 ∷ 0 ∷ 0 ∷ []
 abbrev answers : List ℕ
 answers = 0 ∷ 0 ∷ []
 
-adds : ReadSays sequence 16 (Read.Is AddZone)
+adds : ReadSays sequence 16 (Some AddZone)
 unfolding numbers_at request_of le64 le32 le16
 adds = (refl, record { whole = lit≤ tt; numbers = refl })
 
@@ -51,9 +51,9 @@ says = (
   one_served started 7 (request_at sequence 16) idle Answer.Done (subst (λ (x : Request). Served started 7 x idle Answer.Done) adds.0 (add_zone_done one nobody zeros)),
 )
 
-pub run_done : RanSays sequence replies answers started.zones started.tree started.owners started idle replies answers (Ran.Done 1)
+pub run_ok : RanSays sequence replies answers started.zones started.tree started.owners started idle replies answers (Ok 1)
 unfolding le64 le32 le16
-run_done = (
+run_ok = (
   record { for_replies = lit≤ tt; for_answers = lit≤ tt },
   fits started,
   record {
@@ -67,11 +67,11 @@ run_done = (
 )
 
 -- one byte is no item
-pub run_broken : RanSays (0 ∷ []) [] [] started.zones started.tree started.owners started started [] [] (Ran.Broken 0)
+pub run_broken : RanSays (0 ∷ []) [] [] started.zones started.tree started.owners started started [] [] (Err (NotRun.Broken 0))
 run_broken = (record { for_replies = lit≤ tt; for_answers = lit≤ tt }, fits started, Here (lit< tt) (λ (l : behind (0 ∷ []) 0 ≤ 1). omega arith), refl, refl, refl)
 
-pub run_few_words : RanSays sequence [] [] started.zones started.tree started.owners started started [] [] Ran.FewWords
+pub run_few_words : RanSays sequence [] [] started.zones started.tree started.owners started started [] [] (Err NotRun.FewWords)
 run_few_words = ((λ e. let l = e.for_replies in omega (arith, l)), refl, refl, refl)
 
-pub run_spare : RanSays sequence replies answers [] [] [] started started replies answers Ran.Spare
+pub run_spare : RanSays sequence replies answers [] [] [] started started replies answers (Err NotRun.Spare)
 run_spare = (record { for_replies = lit≤ tt; for_answers = lit≤ tt }, (λ f. let e = f.zones in omega (arith, e)), refl, refl, refl)

@@ -21,7 +21,8 @@ use Rattle.hv_state.proofs.Serving.{one_served}
 use Rattle.list_attempt.specs.Attempting.{Told}
 use Rattle.hv_calls.specs.declared.Replied.{Replied}
 use Rattle.hv_calls.specs.Calling.{SpareFits}
-use Rattle.hv_serve.specs.declared.Called.{Called}
+use Rattle.std.specs.Prelude.{Ok, Err}
+use Rattle.hv_serve.specs.declared.NotServed.{NotServed}
 use Rattle.hv_serve.specs.Called.{CalledSays}
 use Rattle.machine_examples.proofs.HvZones.{add_zone_done}
 use Rattle.machine_examples.proofs.HvFrames.{idle}
@@ -43,9 +44,9 @@ fits b = record { zones = refl; tree = refl; owners = refl }
 -- ---- one request
 
 -- every answer to a request is one to the call that is this request
-pub serve_replied_answered_each : (b : Mem) (number : ℕ) (q : Request) (b' : Mem) (a : Answer) → Served b number q b' a
-    → CalledSays (alone q) buffer b.zones b.tree b.owners b number b' buffer (Called.Replied (Replied.Answered a))
-serve_replied_answered_each b number q b' a v =
+pub serve_answered_each : (b : Mem) (number : ℕ) (q : Request) (b' : Mem) (a : Answer) → Served b number q b' a
+    → CalledSays (alone q) buffer b.zones b.tree b.owners b number b' buffer (Ok (Replied.Answered a))
+serve_answered_each b number q b' a v =
     let is = reads_alone q in
     let right : WellFormed (alone q) 0 = subst (Means (alone q) 0) is.0 is.1 in (
       lit≤ tt,
@@ -67,14 +68,14 @@ one_member q =
 
 -- it is stopped
 stopped : (b : Mem) (number : ℕ) (q : Request) (a : Answer) → CallServed b number (All (q ∷ [])) b (Reply.Stopped 0 a)
-    → CalledSays (listed q) buffer b.zones b.tree b.owners b number b buffer (Called.Replied (Replied.Stopped 0 a))
+    → CalledSays (listed q) buffer b.zones b.tree b.owners b number b buffer (Ok (Replied.Stopped 0 a))
 stopped b number q a v =
     (lit≤ tt, fits b, (one_member q, subst (λ (x : Request). CallServed b number (All (x ∷ [])) b (Reply.Stopped 0 a)) (reads_listed q).0 v), only_none buffer 0 2)
 
 -- for every reason for which the request is refused
-pub serve_replied_stopped_no_each : (b : Mem) (number : ℕ) (q : Request) (why : Reason) → Served b number q b (Answer.No why)
-    → CalledSays (listed q) buffer b.zones b.tree b.owners b number b buffer (Called.Replied (Replied.Stopped 0 (Answer.No why)))
-serve_replied_stopped_no_each b number q why v = stopped b number q (Answer.No why) (one_stopped b number q why v)
+pub serve_stopped_no_each : (b : Mem) (number : ℕ) (q : Request) (why : Reason) → Served b number q b (Answer.No why)
+    → CalledSays (listed q) buffer b.zones b.tree b.owners b number b buffer (Ok (Replied.Stopped 0 (Answer.No why)))
+serve_stopped_no_each b number q why v = stopped b number q (Answer.No why) (one_stopped b number q why v)
 
 -- a list that adds a machine
 abbrev adding : List ℕ
@@ -84,16 +85,16 @@ adding = listed AddZone
 abbrev nothing : Mem
 nothing = mem [] [] [] [] []
 
-pub serve_replied_stopped_corrupt : CalledSays adding buffer [] [] [] nothing 7 nothing buffer (Called.Replied (Replied.Stopped 0 Answer.Corrupt))
-serve_replied_stopped_corrupt = stopped nothing 7 AddZone Answer.Corrupt (one_corrupt nothing 7 AddZone (λ s. let e = s.table.table.long in omega (arith, e)))
+pub serve_stopped_corrupt : CalledSays adding buffer [] [] [] nothing 7 nothing buffer (Ok (Replied.Stopped 0 Answer.Corrupt))
+serve_stopped_corrupt = stopped nothing 7 AddZone Answer.Corrupt (one_corrupt nothing 7 AddZone (λ s. let e = s.table.table.long in omega (arith, e)))
 
-pub serve_replied_stopped_done_never : (s buffer' z t o : List ℕ) (b : Mem) (number : ℕ) (b' : Mem) (answers : List ℕ) (i : ℕ) → Sound b
-    → CalledSays s buffer' z t o b number b' answers (Called.Replied (Replied.Stopped i Answer.Done)) → ⊥
-serve_replied_stopped_done_never s buffer' z t o b number b' answers i k x = never (stopped_right b number _ b' (Reply.Stopped i Answer.Done) k x.2.1)
+pub serve_stopped_done_never : (s buffer' z t o : List ℕ) (b : Mem) (number : ℕ) (b' : Mem) (answers : List ℕ) (i : ℕ) → Sound b
+    → CalledSays s buffer' z t o b number b' answers (Ok (Replied.Stopped i Answer.Done)) → ⊥
+serve_stopped_done_never s buffer' z t o b number b' answers i k x = never (stopped_right b number _ b' (Reply.Stopped i Answer.Done) k x.2.1)
 
-pub serve_replied_stopped_address_never : (s buffer' z t o : List ℕ) (b : Mem) (number : ℕ) (b' : Mem) (answers : List ℕ) (i h : ℕ) → Sound b
-    → CalledSays s buffer' z t o b number b' answers (Called.Replied (Replied.Stopped i (Answer.Address h))) → ⊥
-serve_replied_stopped_address_never s buffer' z t o b number b' answers i h k x = never (stopped_right b number _ b' (Reply.Stopped i (Answer.Address h)) k x.2.1)
+pub serve_stopped_address_never : (s buffer' z t o : List ℕ) (b : Mem) (number : ℕ) (b' : Mem) (answers : List ℕ) (i h : ℕ) → Sound b
+    → CalledSays s buffer' z t o b number b' answers (Ok (Replied.Stopped i (Answer.Address h))) → ⊥
+serve_stopped_address_never s buffer' z t o b number b' answers i h k x = never (stopped_right b number _ b' (Reply.Stopped i (Answer.Address h)) k x.2.1)
 
 -- the machine is added, and its answer told
 added : Served started 7 (request_at adding 1) idle Answer.Done
@@ -102,8 +103,8 @@ added = subst (λ (x : Request). Served started 7 x idle Answer.Done) (reads_lis
 told : Sound started → Told buffer 0 0 (step (plan_of started) (decode started) 7 (request_at adding 1)).answer
 told s = subst (Told buffer 0 0) (sym (ap (λ (o : Outcome). o.answer) (added.same s))) (record { code = refl; address = refl })
 
-pub serve_replied_done : CalledSays adding buffer started.zones started.tree started.owners started 7 idle buffer (Called.Replied Replied.Done)
-serve_replied_done = (
+pub serve_done : CalledSays adding buffer started.zones started.tree started.owners started 7 idle buffer (Ok Replied.Done)
+serve_done = (
   lit≤ tt,
   fits started,
   (
@@ -115,12 +116,12 @@ serve_replied_done = (
 
 -- ---- bytes that are no call, and memory that is too short
 
-pub serve_replied_malformed : CalledSays [] [] started.zones started.tree started.owners started 7 started [] (Called.Replied (Replied.Malformed 0))
+pub serve_malformed : CalledSays [] [] started.zones started.tree started.owners started 7 started [] (Ok (Replied.Malformed 0))
 unfolding is_list
-serve_replied_malformed = (lit≤ tt, fits started, ((refl, λ e r. omega (arith, e)), refl), only_none [] 0 0)
+serve_malformed = (lit≤ tt, fits started, ((refl, λ e r. omega (arith, e)), refl), only_none [] 0 0)
 
-pub serve_few_words : CalledSays adding [] started.zones started.tree started.owners started 7 started [] Called.FewWords
+pub serve_few_words : CalledSays adding [] started.zones started.tree started.owners started 7 started [] (Err NotServed.FewWords)
 serve_few_words = (lit< tt, refl, refl)
 
-pub serve_spare : CalledSays adding buffer [] [] [] started 7 started buffer Called.Spare
+pub serve_spare : CalledSays adding buffer [] [] [] started 7 started buffer (Err NotServed.Spare)
 serve_spare = (lit≤ tt, (λ f. let e = f.zones in omega (arith, e)), refl, refl)

@@ -1,15 +1,14 @@
 -- Which frames may be given back by the client c, and which may be made free or reserved. Assumes nothing.
-use Rattle.std.specs.Prelude.{◌≡◌, List, ℕ, ◌+◌, ◌*◌, ◌≤◌, ◌<◌}
+use Rattle.std.specs.Prelude.{◌≡◌, List, ℕ, ◌+◌, ◌*◌, ◌≤◌, ◌<◌, ⊤, Result, Ok, Err}
 use Rattle.base.specs.Search.{Stops}
 use Rattle.bitmap_tree.specs.Tree.{cap}
 use Rattle.owners.specs.States.{State.Free, State.Owned, state, HasOwner, Unowned}
-use Rattle.claims.specs.declared.Number.{Number}
+use Rattle.claims.specs.declared.NotAFrame.{NotAFrame}
 use Rattle.claims.specs.declared.NotFreed.{NotFreed}
-use Rattle.claims.specs.declared.MayFree.{MayFree}
+use Rattle.claims.specs.declared.NotFreed.TheVariants.{Below as below, NotAtFrame as not_at_frame}
 use Rattle.claims.specs.declared.RunNotFreed.{RunNotFreed}
-use Rattle.claims.specs.declared.MayFreeRun.{MayFreeRun}
+use Rattle.claims.specs.declared.RunNotFreed.TheVariants.{Below as run_below, NotAtFrame as run_not_at_frame}
 use Rattle.claims.specs.declared.NotChanged.{NotChanged}
-use Rattle.claims.specs.declared.MayChange.{MayChange}
 use Rattle.claims.specs.Fits.{Fits, Misfit}
 use Rattle.claims.specs.Offers.{Known}
 
@@ -18,10 +17,10 @@ pub record Between (base addr : ℕ) : Type 0 where
   pub above : base ≤ addr
   pub none : (k : ℕ) → addr ≡ base + 4096 * k → ⊥
 
-abbrev pub NumberSays : ℕ → ℕ → Number → Type 0
-NumberSays base addr (Number.Frame k) = addr ≡ base + 4096 * k
-NumberSays base addr Number.Below = addr < base
-NumberSays base addr Number.NotAtFrame = Between base addr
+abbrev pub NumberSays : ℕ → ℕ → Result ℕ NotAFrame → Type 0
+NumberSays base addr (Ok k) = addr ≡ base + 4096 * k
+NumberSays base addr (Err NotAFrame.Below) = addr < base
+NumberSays base addr (Err NotAFrame.NotAtFrame) = Between base addr
 
 -- an address at which a frame k would stand that meets P, for a known client
 pub record At (base : ℕ) (t o : List ℕ) (c addr : ℕ) (P : ℕ → Type 0) : Type 0 where
@@ -35,6 +34,15 @@ pub record NotMine (t o : List ℕ) (c k : ℕ) : Type 0 where
   pub within : k < cap t
   pub taken : state t o k ≡ Free → ⊥
   pub other : state t o k ≡ Owned c → ⊥
+
+-- no frame at an address, as a reason why a frame, or a run, can't be given back
+abbrev pub not_freed : NotAFrame → NotFreed
+not_freed NotAFrame.Below = below
+not_freed NotAFrame.NotAtFrame = not_at_frame
+
+abbrev pub run_not_freed : NotAFrame → RunNotFreed
+run_not_freed NotAFrame.Below = run_below
+run_not_freed NotAFrame.NotAtFrame = run_not_at_frame
 
 -- the first reason why the frame at an address can't be given back
 abbrev pub Refused : ℕ → List ℕ → List ℕ → ℕ → ℕ → NotFreed → Type 0
@@ -53,9 +61,9 @@ pub record Mine (base : ℕ) (t o : List ℕ) (c addr k : ℕ) : Type 0 where
   pub within : k < cap t
   pub owned : state t o k ≡ Owned c
 
-abbrev pub MayFreeSays : ℕ → List ℕ → List ℕ → ℕ → ℕ → MayFree → Type 0
-MayFreeSays base t o c addr (MayFree.Frame k) = Mine base t o c addr k
-MayFreeSays base t o c addr (MayFree.No why) = Refused base t o c addr why
+abbrev pub MayFreeSays : ℕ → List ℕ → List ℕ → ℕ → ℕ → Result ℕ NotFreed → Type 0
+MayFreeSays base t o c addr (Ok k) = Mine base t o c addr k
+MayFreeSays base t o c addr (Err why) = Refused base t o c addr why
 
 -- r is the first of the count frames from k on that is not the client c's
 pub record FirstOther (t o : List ℕ) (c count k r : ℕ) : Type 0 where
@@ -83,9 +91,9 @@ pub record RunMine (base : ℕ) (t o : List ℕ) (c addr count k : ℕ) : Type 0
   pub within : k + count ≤ cap t
   pub owned : (m : ℕ) → k ≤ m → m < k + count → state t o m ≡ Owned c
 
-abbrev pub MayFreeRunSays : ℕ → List ℕ → List ℕ → ℕ → ℕ → ℕ → MayFreeRun → Type 0
-MayFreeRunSays base t o c addr count (MayFreeRun.From k) = RunMine base t o c addr count k
-MayFreeRunSays base t o c addr count (MayFreeRun.No why) = RunRefused base t o c addr count why
+abbrev pub MayFreeRunSays : ℕ → List ℕ → List ℕ → ℕ → ℕ → ℕ → Result ℕ RunNotFreed → Type 0
+MayFreeRunSays base t o c addr count (Ok k) = RunMine base t o c addr count k
+MayFreeRunSays base t o c addr count (Err why) = RunRefused base t o c addr count why
 
 -- the frames from a up to b are there, one at least
 pub record Range (base : ℕ) (t o : List ℕ) (a b : ℕ) : Type 0 where
@@ -113,6 +121,6 @@ pub record Changeable (base : ℕ) (t o : List ℕ) (a b : ℕ) : Type 0 where
   pub range : Range base t o a b
   pub unowned : (k : ℕ) → a ≤ k → k < b → Unowned t o k
 
-abbrev pub MayChangeSays : ℕ → List ℕ → List ℕ → ℕ → ℕ → MayChange → Type 0
-MayChangeSays base t o a b MayChange.Yes = Changeable base t o a b
-MayChangeSays base t o a b (MayChange.No why) = Unchangeable base t o a b why
+abbrev pub MayChangeSays : ℕ → List ℕ → List ℕ → ℕ → ℕ → Result ⊤ NotChanged → Type 0
+MayChangeSays base t o a b (Ok _) = Changeable base t o a b
+MayChangeSays base t o a b (Err why) = Unchangeable base t o a b why

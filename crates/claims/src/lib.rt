@@ -3,15 +3,20 @@
 // nothing is demanded of the caller.
 #![tactic(auto)]
 
+ghost use Rattle.std.specs.Prelude.{◌≡◌};
+ghost use Rattle.claims.specs.declared.NoFrame.{NoFrame};
+ghost use Rattle.claims.specs.declared.NoRun.{NoRun};
+ghost use Rattle.claims.specs.declared.NotFreed.{NotFreed};
+ghost use Rattle.claims.specs.declared.RunNotFreed.{RunNotFreed};
+ghost use Rattle.claims.specs.declared.NotChanged.{NotChanged};
 ghost use Rattle.claims.specs.Fits.{FitSays};
-ghost use Rattle.claims.specs.Offers.{OfferSays, OfferRunSays};
-ghost use Rattle.claims.specs.Returns.{NumberSays, MayFreeSays, MayFreeRunSays, MayChangeSays};
+ghost use Rattle.claims.specs.Offers.{no_frame, OfferSays, no_run, OfferRunSays};
+ghost use Rattle.claims.specs.Returns.{NumberSays, not_freed, run_not_freed, MayFreeSays, MayFreeRunSays, MayChangeSays};
 
-use bitmap_runs::Searched;
-use bitmap_search::Next;
+use bitmap_search::Missed;
 
 // Why memories and a base are not an allocator's.
-#[derive(Drop)]
+#[derive(Clone, Copy, Debug, PartialEq, Eq)]
 pub enum Unfit {
     // The tree's words are no full tree.
     NotFull,
@@ -21,15 +26,8 @@ pub enum Unfit {
     BadBase,
 }
 
-// Whether memories and a base are an allocator's.
-#[derive(Drop)]
-pub enum Fit {
-    Yes,
-    No(Unfit),
-}
-
 // Why no frame is given.
-#[derive(Drop)]
+#[derive(Clone, Copy, Debug, PartialEq, Eq)]
 pub enum NoFrame {
     Unfit(Unfit),
     // Clients are numbered 0 to 63. Each enum below that has this variant means the same by it.
@@ -40,15 +38,27 @@ pub enum NoFrame {
     Corrupt,
 }
 
-// The frame that may be given.
-#[derive(Drop)]
-pub enum Offer {
-    Frame(usize),
-    No(NoFrame),
+impl From<Unfit> for NoFrame {
+    ghost from_gives = { λ why e. e ≡ NoFrame.Unfit why };
+
+    fn from(why: Unfit) -> NoFrame {
+        NoFrame::Unfit(why)
+    }
+}
+
+impl From<Missed> for NoFrame {
+    ghost from_gives = { λ why e. e ≡ no_frame why };
+
+    fn from(why: Missed) -> NoFrame {
+        match why {
+            Missed::Nothing => NoFrame::NoRoom,
+            Missed::Corrupt => NoFrame::Corrupt,
+        }
+    }
 }
 
 // Why no run of frames is given.
-#[derive(Drop)]
+#[derive(Clone, Copy, Debug, PartialEq, Eq)]
 pub enum NoRun {
     Unfit(Unfit),
     NoClient,
@@ -60,17 +70,28 @@ pub enum NoRun {
     Corrupt,
 }
 
-// The first frame of the run that may be given.
-#[derive(Drop)]
-pub enum RunOffer {
-    From(usize),
-    No(NoRun),
+impl From<Unfit> for NoRun {
+    ghost from_gives = { λ why e. e ≡ NoRun.Unfit why };
+
+    fn from(why: Unfit) -> NoRun {
+        NoRun::Unfit(why)
+    }
 }
 
-// The number of the frame at an address.
-#[derive(Drop)]
-pub enum Number {
-    Frame(usize),
+impl From<Missed> for NoRun {
+    ghost from_gives = { λ why e. e ≡ no_run why };
+
+    fn from(why: Missed) -> NoRun {
+        match why {
+            Missed::Nothing => NoRun::NoRoom,
+            Missed::Corrupt => NoRun::Corrupt,
+        }
+    }
+}
+
+// Why no frame is at an address.
+#[derive(Clone, Copy, Debug, PartialEq, Eq)]
+pub enum NotAFrame {
     // The address is below the base.
     Below,
     // The address is not the first of a frame.
@@ -78,7 +99,7 @@ pub enum Number {
 }
 
 // Why a frame can't be given back.
-#[derive(Drop)]
+#[derive(Clone, Copy, Debug, PartialEq, Eq)]
 pub enum NotFreed {
     Unfit(Unfit),
     NoClient,
@@ -92,15 +113,27 @@ pub enum NotFreed {
     NotYours,
 }
 
-// The frame that may be given back.
-#[derive(Drop)]
-pub enum MayFree {
-    Frame(usize),
-    No(NotFreed),
+impl From<Unfit> for NotFreed {
+    ghost from_gives = { λ why e. e ≡ NotFreed.Unfit why };
+
+    fn from(why: Unfit) -> NotFreed {
+        NotFreed::Unfit(why)
+    }
+}
+
+impl From<NotAFrame> for NotFreed {
+    ghost from_gives = { λ why e. e ≡ not_freed why };
+
+    fn from(why: NotAFrame) -> NotFreed {
+        match why {
+            NotAFrame::Below => NotFreed::Below,
+            NotAFrame::NotAtFrame => NotFreed::NotAtFrame,
+        }
+    }
 }
 
 // Why a run of frames can't be given back.
-#[derive(Drop)]
+#[derive(Clone, Copy, Debug, PartialEq, Eq)]
 pub enum RunNotFreed {
     Unfit(Unfit),
     NoClient,
@@ -115,15 +148,27 @@ pub enum RunNotFreed {
     NotYours(usize),
 }
 
-// The first frame of the run that may be given back.
-#[derive(Drop)]
-pub enum MayFreeRun {
-    From(usize),
-    No(RunNotFreed),
+impl From<Unfit> for RunNotFreed {
+    ghost from_gives = { λ why e. e ≡ RunNotFreed.Unfit why };
+
+    fn from(why: Unfit) -> RunNotFreed {
+        RunNotFreed::Unfit(why)
+    }
+}
+
+impl From<NotAFrame> for RunNotFreed {
+    ghost from_gives = { λ why e. e ≡ run_not_freed why };
+
+    fn from(why: NotAFrame) -> RunNotFreed {
+        match why {
+            NotAFrame::Below => RunNotFreed::Below,
+            NotAFrame::NotAtFrame => RunNotFreed::NotAtFrame,
+        }
+    }
 }
 
 // Why a range of frames can't be made free or reserved.
-#[derive(Drop)]
+#[derive(Clone, Copy, Debug, PartialEq, Eq)]
 pub enum NotChanged {
     Unfit(Unfit),
     // It ends where it starts.
@@ -135,57 +180,51 @@ pub enum NotChanged {
     Taken(usize),
 }
 
-// Whether a range of frames may be made free or reserved.
-#[derive(Drop)]
-pub enum MayChange {
-    Yes,
-    No(NotChanged),
+impl From<Unfit> for NotChanged {
+    ghost from_gives = { λ why e. e ≡ NotChanged.Unfit why };
+
+    fn from(why: Unfit) -> NotChanged {
+        NotChanged::Unfit(why)
+    }
 }
 
 // Whether the memories and the base are an allocator's.
-pub fn fitting(tree: &[u16], owners: &[u8], base: usize) -> Fit
+#[tactic(auto, using(bitmap_tree::proofs::Fullness::full_bound))]
+pub fn fitting(tree: &[u16], owners: &[u8], base: usize) -> Result<(), Unfit>
     ensures { FitSays base tree.now owners.now result }
 {
     let w = tree.len();
     if !bitmap_tree::is_full(w) {
-        return Fit::No(Unfit::NotFull);
+        return Err(Unfit::NotFull);
     }
     if owners.len() != 15 * w + 1 {
-        return Fit::No(Unfit::Unmatched);
+        return Err(Unfit::Unmatched);
     }
     if base % 4096 != 0 {
-        return Fit::No(Unfit::BadBase);
+        return Err(Unfit::BadBase);
     }
-    Fit::Yes
+    Ok(())
 }
 
 // The lowest free frame, for the client c.
-pub fn find_frame(tree: &[u16], owners: &[u8], base: usize, c: u8) -> Offer
+#[tactic(auto, using(crate::proofs::Offers::none_free))]
+pub fn find_frame(tree: &[u16], owners: &[u8], base: usize, c: u8) -> Result<usize, NoFrame>
     ensures { OfferSays base tree.now owners.now c result }
 {
-    match fitting(tree, owners, base) {
-        Fit::No(why) => {
-            return Offer::No(NoFrame::Unfit(why));
-        }
-        Fit::Yes => {}
-    }
+    fitting(tree, owners, base)?;
     if c >= 64 {
-        return Offer::No(NoFrame::NoClient);
+        return Err(NoFrame::NoClient);
     }
-    match bitmap_search::lowest(tree) {
-        Next::Nothing => Offer::No(NoFrame::NoRoom),
-        Next::Corrupt => Offer::No(NoFrame::Corrupt),
-        Next::Frame(k) => {
-            if owner_passes::placed(base, k) {
-                return Offer::Frame(k);
-            }
-            Offer::No(NoFrame::Corrupt)
-        }
+    let k = bitmap_search::lowest(tree)?;
+    if !owner_passes::placed(base, k) {
+        return Err(NoFrame::Corrupt);
     }
+    Ok(k)
 }
 
 // The lowest run of `size` free frames whose first is a multiple of 2 to the power of `align_log2`, for
 // the client c.
+#[tactic(auto, using(bitmap_tree::proofs::Fullness::full_bound))]
 pub fn find_run(
     tree: &[u16],
     owners: &[u8],
@@ -193,78 +232,66 @@ pub fn find_run(
     c: u8,
     size: usize,
     align_log2: usize,
-) -> RunOffer
+) -> Result<usize, NoRun>
     ensures { OfferRunSays base tree.now owners.now c size align_log2 result }
 {
-    match fitting(tree, owners, base) {
-        Fit::No(why) => {
-            return RunOffer::No(NoRun::Unfit(why));
-        }
-        Fit::Yes => {}
-    }
+    fitting(tree, owners, base)?;
     if c >= 64 {
-        return RunOffer::No(NoRun::NoClient);
+        return Err(NoRun::NoClient);
     }
     if size == 0 {
-        return RunOffer::No(NoRun::Empty);
+        return Err(NoRun::Empty);
     }
-    match bitmap_runs::find_run(tree, size, align_log2) {
-        Searched::Nowhere => RunOffer::No(NoRun::NoRoom),
-        Searched::Corrupt => RunOffer::No(NoRun::Corrupt),
-        Searched::At(s) => {
-            if owner_passes::placed(base, s + size - 1) {
-                return RunOffer::From(s);
-            }
-            RunOffer::No(NoRun::Corrupt)
-        }
+    let s = bitmap_runs::find_run(tree, size, align_log2)?;
+    if !owner_passes::placed(base, s + size - 1) {
+        return Err(NoRun::Corrupt);
     }
+    Ok(s)
 }
 
 // The number of the frame at an address.
-pub fn number_at(base: usize, addr: usize) -> Number
+pub fn number_at(base: usize, addr: usize) -> Result<usize, NotAFrame>
     ensures { NumberSays base addr result }
 {
     if addr < base {
-        return Number::Below;
+        return Err(NotAFrame::Below);
     }
     if (addr - base) % 4096 != 0 {
-        return Number::NotAtFrame;
+        return Err(NotAFrame::NotAtFrame);
     }
-    Number::Frame((addr - base) / 4096)
+    Ok((addr - base) / 4096)
 }
 
-// Whether the client c may give back the frame at an address.
-pub fn may_free(tree: &[u16], owners: &[u8], base: usize, c: u8, addr: usize) -> MayFree
+// Whether the client c may give back the frame at an address, and its number.
+#[tactic(auto, using(bitmap_tree::proofs::Fullness::full_bound, owners::proofs::States::free_state))]
+pub fn may_free(
+    tree: &[u16],
+    owners: &[u8],
+    base: usize,
+    c: u8,
+    addr: usize,
+) -> Result<usize, NotFreed>
     ensures { MayFreeSays base tree.now owners.now c addr result }
 {
-    match fitting(tree, owners, base) {
-        Fit::No(why) => {
-            return MayFree::No(NotFreed::Unfit(why));
-        }
-        Fit::Yes => {}
-    }
+    fitting(tree, owners, base)?;
     if c >= 64 {
-        return MayFree::No(NotFreed::NoClient);
+        return Err(NotFreed::NoClient);
     }
-    match number_at(base, addr) {
-        Number::Below => MayFree::No(NotFreed::Below),
-        Number::NotAtFrame => MayFree::No(NotFreed::NotAtFrame),
-        Number::Frame(k) => {
-            if k >= owners.len() {
-                return MayFree::No(NotFreed::Outside);
-            }
-            if bitmap_tree::read(tree, tree.len() + k) == 1 {
-                return MayFree::No(NotFreed::NotTaken);
-            }
-            if owners[k] != c {
-                return MayFree::No(NotFreed::NotYours);
-            }
-            MayFree::Frame(k)
-        }
+    let k = number_at(base, addr)?;
+    if k >= owners.len() {
+        return Err(NotFreed::Outside);
     }
+    if bitmap_tree::read(tree, tree.len() + k) == 1 {
+        return Err(NotFreed::NotTaken);
+    }
+    if owners[k] != c {
+        return Err(NotFreed::NotYours);
+    }
+    Ok(k)
 }
 
-// Whether the client c may give back the `count` frames from an address on.
+// Whether the client c may give back the `count` frames from an address on, and the number of the first.
+#[tactic(auto, using(bitmap_tree::proofs::Fullness::full_bound, owners::proofs::States::free_state))]
 pub fn may_free_run(
     tree: &[u16],
     owners: &[u8],
@@ -272,66 +299,54 @@ pub fn may_free_run(
     c: u8,
     addr: usize,
     count: usize,
-) -> MayFreeRun
+) -> Result<usize, RunNotFreed>
     ensures { MayFreeRunSays base tree.now owners.now c addr count result }
 {
-    match fitting(tree, owners, base) {
-        Fit::No(why) => {
-            return MayFreeRun::No(RunNotFreed::Unfit(why));
-        }
-        Fit::Yes => {}
-    }
+    fitting(tree, owners, base)?;
     if c >= 64 {
-        return MayFreeRun::No(RunNotFreed::NoClient);
+        return Err(RunNotFreed::NoClient);
     }
-    match number_at(base, addr) {
-        Number::Below => MayFreeRun::No(RunNotFreed::Below),
-        Number::NotAtFrame => MayFreeRun::No(RunNotFreed::NotAtFrame),
-        Number::Frame(k) => {
-            if count == 0 {
-                return MayFreeRun::No(RunNotFreed::Empty);
-            }
-            let all = owners.len();
-            if k >= all {
-                return MayFreeRun::No(RunNotFreed::Outside);
-            }
-            if all - k < count {
-                return MayFreeRun::No(RunNotFreed::Outside);
-            }
-            let r = owners::owned_until(tree, owners, k, k + count, c);
-            if r == k + count {
-                return MayFreeRun::From(k);
-            }
-            if bitmap_tree::read(tree, tree.len() + r) == 1 {
-                return MayFreeRun::No(RunNotFreed::NotTaken(r));
-            }
-            MayFreeRun::No(RunNotFreed::NotYours(r))
-        }
+    let k = number_at(base, addr)?;
+    if count == 0 {
+        return Err(RunNotFreed::Empty);
     }
+    let all = owners.len();
+    if k >= all || all - k < count {
+        return Err(RunNotFreed::Outside);
+    }
+    let r = owners::owned_until(tree, owners, k, k + count, c);
+    if r == k + count {
+        return Ok(k);
+    }
+    if bitmap_tree::read(tree, tree.len() + r) == 1 {
+        return Err(RunNotFreed::NotTaken(r));
+    }
+    Err(RunNotFreed::NotYours(r))
 }
 
 // Whether the frames from `from` up to `to` may be made free or reserved: no client owns one.
-pub fn may_change(tree: &[u16], owners: &[u8], base: usize, from: usize, to: usize) -> MayChange
+pub fn may_change(
+    tree: &[u16],
+    owners: &[u8],
+    base: usize,
+    from: usize,
+    to: usize,
+) -> Result<(), NotChanged>
     ensures { MayChangeSays base tree.now owners.now from to result }
 {
-    match fitting(tree, owners, base) {
-        Fit::No(why) => {
-            return MayChange::No(NotChanged::Unfit(why));
-        }
-        Fit::Yes => {}
-    }
+    fitting(tree, owners, base)?;
     if from == to {
-        return MayChange::No(NotChanged::Empty);
+        return Err(NotChanged::Empty);
     }
     if to < from {
-        return MayChange::No(NotChanged::Reversed);
+        return Err(NotChanged::Reversed);
     }
     if owners.len() < to {
-        return MayChange::No(NotChanged::Outside);
+        return Err(NotChanged::Outside);
     }
     let r = owners::unowned_until(tree, owners, from, to);
     if r != to {
-        return MayChange::No(NotChanged::Taken(r));
+        return Err(NotChanged::Taken(r));
     }
-    MayChange::Yes
+    Ok(())
 }

@@ -1,44 +1,43 @@
 // The configuration: which machines there are and what memory each is given, as bytes.
 //
 // `check` decides bytes, and `load` writes an accepted configuration into a table in lent words, which
-// `check_table` decides. What a table holds is asked of config_table. Every function takes any bytes and any words of any length, and
-// asks nothing of its caller.
+// `check_table` decides. What a table holds is asked of config_table. Every function takes any bytes and any
+// words of any length, and asks nothing of its caller.
 #![tactic(auto)]
 
-ghost use Rattle.config.specs.Checking.{CheckSays};
+ghost use Rattle.std.specs.Prelude.{◌≡◌};
+ghost use Rattle.config.specs.declared.NotLoaded.{NotLoaded};
+ghost use Rattle.config.specs.declared.BadTable.{BadTable};
+ghost use Rattle.config.specs.declared.NotEncoded.{NotEncoded};
+ghost use Rattle.config.specs.Checking.{reason_of, CheckSays};
 ghost use Rattle.config.specs.Loading.{LoadSays};
 ghost use Rattle.config.specs.Tables.{CheckTableSays};
 ghost use Rattle.config.specs.Encoding.{EncodeSays};
 
-use config_bytes::Read;
-use config_rules::Judged;
+use config_bytes::Misread;
 pub use config_rules::Reason;
+use config_view::View;
 
-// Whether bytes are a configuration that is right.
-#[derive(Drop)]
-pub enum Verdict {
-    // They are, of so many machines.
-    Accepted(usize),
-    // They are not, for the first reason that there is.
-    Refused(Reason),
-}
-
-// What became of a configuration that was to be loaded.
-#[derive(Drop)]
-pub enum Loaded {
-    // It is in the table, and has so many machines.
-    Done(usize),
+// Why nothing was loaded.
+#[derive(Clone, Copy, Debug, PartialEq, Eq)]
+pub enum NotLoaded {
     // The bytes are refused, for the first reason that there is.
     Refused(Reason),
     // The words are not as many as a table has.
     NoTable,
 }
 
-// Whether words are a table that `load` can write.
-#[derive(Drop)]
-pub enum TableVerdict {
-    // They are, of so many machines.
-    Accepted(usize),
+impl From<Reason> for NotLoaded {
+    ghost from_gives = { λ r e. e ≡ NotLoaded.Refused r };
+
+    fn from(r: Reason) -> NotLoaded {
+        NotLoaded::Refused(r)
+    }
+}
+
+// Why words are not a table that `load` can write.
+#[derive(Clone, Copy, Debug, PartialEq, Eq)]
+pub enum BadTable {
     // Some word is not as `load` writes it.
     Stray,
     // The configuration that they mean is not right, for the first reason that there is.
@@ -47,93 +46,97 @@ pub enum TableVerdict {
     NoTable,
 }
 
-// What became of a table whose configuration was to be written as bytes.
-#[derive(Drop)]
-pub enum Encoded {
-    // So many bytes are written.
-    Done(usize),
+impl From<Reason> for BadTable {
+    ghost from_gives = { λ r e. e ≡ BadTable.Refused r };
+
+    fn from(r: Reason) -> BadTable {
+        BadTable::Refused(r)
+    }
+}
+
+// Why the configuration of a table was not written as bytes.
+#[derive(Clone, Copy, Debug, PartialEq, Eq)]
+pub enum NotEncoded {
     // It takes so many bytes, and there is no room for them.
     NoRoom(usize),
     // The table is refused, as `check_table` refuses it.
-    Stray,
-    Refused(Reason),
-    NoTable,
+    Table(BadTable),
 }
 
-// Decides whether bytes are a configuration that is right.
-pub fn check(bytes: &[u8]) -> Verdict
+impl From<BadTable> for NotEncoded {
+    ghost from_gives = { λ b e. e ≡ NotEncoded.Table b };
+
+    fn from(b: BadTable) -> NotEncoded {
+        NotEncoded::Table(b)
+    }
+}
+
+// The reason that a field is refused for. No `From`, since both types are other crates'.
+fn reason_of(e: Misread) -> Reason
+    ensures { result ≡ reason_of e }
+{
+    match e {
+        Misread::TooShort(at) => Reason::TooShort(at),
+        Misread::TooManyMachines => Reason::TooManyMachines,
+        Misread::TooManyRegions(m) => Reason::TooManyRegions(m),
+        Misread::UnknownKind(m, i) => Reason::UnknownKind(m, i),
+    }
+}
+
+// Decides whether bytes are a configuration that is right, and answers how many machines it has.
+pub fn check(bytes: &[u8]) -> Result<usize, Reason>
     ensures { CheckSays bytes.now result }
 {
-    match config_bytes::read_all(bytes) {
-        Read::Whole => {}
-        Read::TooShort(at) => return Verdict::Refused(Reason::TooShort(at)),
-        Read::TooManyMachines => return Verdict::Refused(Reason::TooManyMachines),
-        Read::TooManyRegions(m) => return Verdict::Refused(Reason::TooManyRegions(m)),
-        Read::UnknownKind(m, i) => return Verdict::Refused(Reason::UnknownKind(m, i)),
+    if let Err(e) = config_bytes::read_all(bytes) {
+        return Err(reason_of(e));
     }
-    let none = [0u64; 1];
-    match config_rules::judge(bytes, &none) {
-        Judged::Right => {}
-        Judged::Wrong(r) => return Verdict::Refused(r),
-    }
-    let end = config_singles::end_of(bytes, &none);
+    let v = View::Bytes(bytes);
+    config_rules::judge(&v)?;
+    let end = v.end();
     if end + 16 < bytes.len() {
-        return Verdict::Refused(Reason::LeftOver(end + 16));
+        return Err(Reason::LeftOver(end + 16));
     }
-    Verdict::Accepted(config_view::machines(bytes, &none))
+    Ok(v.machines())
 }
 
-// Writes an accepted configuration into a table: every word of it, or none.
-pub fn load(bytes: &[u8], table: &mut [u64]) -> Loaded
+// Writes an accepted configuration into a table, every word of it, or none, and answers how many machines it
+// has.
+pub fn load(bytes: &[u8], table: &mut [u64]) -> Result<usize, NotLoaded>
     ensures { LoadSays bytes.now table.old table.new result }
 {
     if table.len() != 8325 {
-        return Loaded::NoTable;
+        return Err(NotLoaded::NoTable);
     }
-    match check(bytes) {
-        Verdict::Refused(r) => Loaded::Refused(r),
-        Verdict::Accepted(n) => {
-            let none = [0u64; 1];
-            config_write::write_table(bytes, &none, table);
-            Loaded::Done(n)
-        }
-    }
+    let machines = check(bytes)?;
+    config_write::write_table(&View::Bytes(bytes), table);
+    Ok(machines)
 }
 
-// Decides whether words are a table that `load` can write.
-pub fn check_table(table: &[u64]) -> TableVerdict
+// Decides whether words are a table that `load` can write, and answers how many machines it has.
+pub fn check_table(table: &[u64]) -> Result<usize, BadTable>
     ensures { CheckTableSays table.now result }
 {
     if table.len() != 8325 {
-        return TableVerdict::NoTable;
+        return Err(BadTable::NoTable);
     }
-    let none = [0u8; 1];
-    if !config_kept::table_kept(&none[..0], table) {
-        return TableVerdict::Stray;
+    if !config_kept::table_kept(table) {
+        return Err(BadTable::Stray);
     }
-    match config_rules::judge(&none[..0], table) {
-        Judged::Right => {}
-        Judged::Wrong(r) => return TableVerdict::Refused(r),
-    }
-    TableVerdict::Accepted(config_view::machines(&none[..0], table))
+    let v = View::Table(table);
+    config_rules::judge(&v)?;
+    Ok(v.machines())
 }
 
-// Writes the configuration of a table as bytes: those that `load` makes the table from.
-pub fn encode(table: &[u64], out: &mut [u8]) -> Encoded
+// Writes the configuration of a table as bytes, those that `load` makes the table from, and answers how many
+// they are.
+pub fn encode(table: &[u64], out: &mut [u8]) -> Result<usize, NotEncoded>
     ensures { EncodeSays table.now out.old out.new result }
 {
-    match check_table(table) {
-        TableVerdict::NoTable => Encoded::NoTable,
-        TableVerdict::Stray => Encoded::Stray,
-        TableVerdict::Refused(r) => Encoded::Refused(r),
-        TableVerdict::Accepted(_) => {
-            let none = [0u8; 1];
-            let n = config_encode::size_of(&none[..0], table);
-            if out.len() < n {
-                return Encoded::NoRoom(n);
-            }
-            config_encode::put_all(&none[..0], table, out);
-            Encoded::Done(n)
-        }
+    check_table(table)?;
+    let n = config_encode::size_of(table);
+    if out.len() < n {
+        return Err(NotEncoded::NoRoom(n));
     }
+    config_encode::put_all(table, out);
+    Ok(n)
 }

@@ -9,23 +9,23 @@ use native.Mathlib.Omega.{arith}
 use borrow.Author.Tests.{leb-true, le-leb}
 use lib.ListN.{length, get_or}
 use lib.Dec.{leb}
+use Rattle.std.specs.Prelude.{Ok, Err, IsErrAnd}
+use Rattle.std.proofs.lemmas.Result.{err_from_is_err_and}
 use Rattle.config_bytes.specs.Fields.{le16, machines, offset, count, Part, Readable}
 use Rattle.base.specs.Choices.{pick}
-use Rattle.config_bytes.specs.Reading.{after, field, region_read, regions_read, machine_read, machines_read, read_of}
-use Rattle.config_bytes.specs.declared.Read.{Read}
+use Rattle.config_bytes.specs.Reading.{Read, after, field, region_read, regions_read, machine_read, machines_read, read_of}
+use Rattle.config_bytes.specs.declared.Misread.{Misread}
 
 -- ---- steps
 
--- what is wrong is found, whatever comes behind it
-pub after_stop : (r next : Read) → (r ≡ Read.Whole → ⊥) → after r next ≡ r
-after_stop Read.Whole next n = absurd (n refl)
-after_stop (Read.TooShort at) next n = refl
-after_stop Read.TooManyMachines next n = refl
-after_stop (Read.TooManyRegions m) next n = refl
-after_stop (Read.UnknownKind m i) next n = refl
+-- what the exit of a `?` hands on
+pub handed : {e : Misread} (r : Read) → IsErrAnd r (λ y. y ≡ e) → r ≡ Err e
+handed r h = let p = err_from_is_err_and r h in p.1 ∙ ap Err p.2
 
-pub after_whole : (r next : Read) → r ≡ Read.Whole → after r next ≡ next
-after_whole r next e = ap (λ (x : Read). after x next) e
+-- nothing behind r
+pub after_last : (r : Read) → after r (Ok tt) ≡ r
+after_last (Ok x) = refl
+after_last (Err e) = refl
 
 pub regions_step : (left : ℕ) (s : List ℕ) (m i at : ℕ) (next : Read) → 0 < left
     → regions_read left s m i at next ≡ region_read s m i at (regions_read (left - 1) s m (i + 1) (at + 25) next)
@@ -44,45 +44,33 @@ unfolding machines_read
 machines_step zero s m at l = absurd (omega arith)
 machines_step (suc left) s m at l = rw (sub-one, add-one)
 
-pub machines_none : (left : ℕ) (s : List ℕ) (m at : ℕ) → left ≤ 0 → machines_read left s m at ≡ field s at 8 (field s (at + 8) 8 Read.Whole)
+pub machines_none : (left : ℕ) (s : List ℕ) (m at : ℕ) → left ≤ 0 → machines_read left s m at ≡ field s at 8 (field s (at + 8) 8 (Ok tt))
 unfolding machines_read
 machines_none zero s m at l = refl
 machines_none (suc left) s m at l = absurd (omega arith)
 
 -- ---- nothing is wrong: the bytes are readable
 
-picked : (b : Bool) (x y : Read) → (y ≡ Read.Whole → ⊥) → pick b x y ≡ Read.Whole → (b ≡ true) × (x ≡ Read.Whole)
-picked true x y n e = (refl, e)
-picked false x y n e = absurd (n e)
+picked : (b : Bool) (x : Read) (e : Misread) → pick b x (Err e) ≡ Ok tt → (b ≡ true) × (x ≡ Ok tt)
+picked true x e q = (refl, q)
+picked false x e q = absurd cc
 
-pub short_not : {at : ℕ} → Read.TooShort at ≡ Read.Whole → ⊥
-short_not e = let z : ◌≡◌ {A = ℕ} 0 1 = cc in omega arith
-
-pub many_not : {m : ℕ} → Read.TooManyRegions m ≡ Read.Whole → ⊥
-many_not e = let z : ◌≡◌ {A = ℕ} 0 1 = cc in omega arith
-
-pub kind_not : {m i : ℕ} → Read.UnknownKind m i ≡ Read.Whole → ⊥
-kind_not e = let z : ◌≡◌ {A = ℕ} 0 1 = cc in omega arith
-
-pub machines_not : Read.TooManyMachines ≡ Read.Whole → ⊥
-machines_not e = let z : ◌≡◌ {A = ℕ} 0 1 = cc in omega arith
-
-field_whole : (s : List ℕ) (at size : ℕ) (next : Read) → field s at size next ≡ Read.Whole → (at + size ≤ length s) × (next ≡ Read.Whole)
+field_whole : (s : List ℕ) (at size : ℕ) (next : Read) → field s at size next ≡ Ok tt → (at + size ≤ length s) × (next ≡ Ok tt)
 field_whole s at size next e =
-    let p = picked (leb (at + size) (length s)) next (Read.TooShort at) short_not e in (leb-true _ _ p.0, p.1)
+    let p = picked (leb (at + size) (length s)) next (Misread.TooShort at) e in (leb-true _ _ p.0, p.1)
 
-pub region_whole : (s : List ℕ) (m i at : ℕ) (next : Read) → region_read s m i at next ≡ Read.Whole → (at + 25 ≤ length s) × (get_or s (at + 24) 0 ≤ 2) × (next ≡ Read.Whole)
+pub region_whole : (s : List ℕ) (m i at : ℕ) (next : Read) → region_read s m i at next ≡ Ok tt → (at + 25 ≤ length s) × (get_or s (at + 24) 0 ≤ 2) × (next ≡ Ok tt)
 unfolding region_read
 region_whole s m i at next e =
     let a = field_whole s at 8 _ e in
     let b = field_whole s (at + 8) 8 _ a.1 in
     let d = field_whole s (at + 16) 8 _ b.1 in
     let f = field_whole s (at + 24) 1 _ d.1 in
-    let g = picked (leb (get_or s (at + 24) 0) 2) next (Read.UnknownKind m i) kind_not f.1 in
+    let g = picked (leb (get_or s (at + 24) 0) 2) next (Misread.UnknownKind m i) f.1 in
     let l = f.0 in (omega arith, leb-true _ _ g.0, g.1)
 
-pub regions_whole : (n : ℕ) (s : List ℕ) (m i at : ℕ) (next : Read) → at ≤ length s → regions_read n s m i at next ≡ Read.Whole
-    → (at + 25 * n ≤ length s) × ((j : ℕ) → j < n → get_or s (at + 25 * j + 24) 0 ≤ 2) × (next ≡ Read.Whole)
+pub regions_whole : (n : ℕ) (s : List ℕ) (m i at : ℕ) (next : Read) → at ≤ length s → regions_read n s m i at next ≡ Ok tt
+    → (at + 25 * n ≤ length s) × ((j : ℕ) → j < n → get_or s (at + 25 * j + 24) 0 ≤ 2) × (next ≡ Ok tt)
 unfolding regions_read
 regions_whole zero s m i at next l e = (omega arith, (λ j h. absurd (omega arith)), e)
 regions_whole (suc n) s m i at next l e =
@@ -95,12 +83,12 @@ regions_whole (suc n) s m i at next l e =
     kinds j x first rest (yes q) = let p : at + 25 * j + 24 ≡ at + 24 = omega arith in rw p first
     kinds j x first rest (no q) = let p : at + 25 * j + 24 ≡ at + 25 + 25 * (j - 1) + 24 = omega (arith, q) in rw p (rest (j - 1) (omega (arith, q)))
 
-pub machine_whole : (s : List ℕ) (m at : ℕ) (next : Read) → at ≡ offset s m → machine_read s m at next ≡ Read.Whole → Part s m × (next ≡ Read.Whole)
+pub machine_whole : (s : List ℕ) (m at : ℕ) (next : Read) → at ≡ offset s m → machine_read s m at next ≡ Ok tt → Part s m × (next ≡ Ok tt)
 unfolding machine_read offset
 machine_whole s m at next o e =
     let a = field_whole s at 2 _ e in
     let b = field_whole s (at + 2) 2 _ a.1 in
-    let d = picked (leb (le16 s (at + 2)) 32) _ (Read.TooManyRegions m) many_not b.1 in
+    let d = picked (leb (le16 s (at + 2)) 32) _ (Misread.TooManyRegions m) b.1 in
     let l = b.0 in
     let r = regions_whole (le16 s (at + 2)) s m 0 (at + 4) next (omega arith) d.1 in
     let h = r.0 in
@@ -124,12 +112,18 @@ unfolding offset
 offset_low s zero = omega arith
 offset_low s (suc m) = let l = offset_low s m in omega arith
 
+-- the fields of each of the machines before machine m have at most 804 bytes
+pub offset_high : (s : List ℕ) → Readable s → (m : ℕ) → m ≤ machines s → offset s m ≤ 2 + 804 * m
+unfolding offset
+offset_high s r zero l = omega arith
+offset_high s r (suc m) l = let h = offset_high s r m (omega arith) in let f = (r.parts m (omega arith)).few in omega arith
+
 -- the fields of the next machine start behind those of this one
 pub next_offset : (s : List ℕ) (m at : ℕ) → at ≡ offset s m → at + (4 + 25 * le16 s (at + 2)) ≡ offset s (suc m)
 unfolding offset
 next_offset s m at o = ap (λ (x : ℕ). x + (4 + 25 * le16 s (x + 2))) o
 
-machines_whole : (left : ℕ) (s : List ℕ) (m at : ℕ) → at ≡ offset s m → machines_read left s m at ≡ Read.Whole
+machines_whole : (left : ℕ) (s : List ℕ) (m at : ℕ) → at ≡ offset s m → machines_read left s m at ≡ Ok tt
     → ((j : ℕ) → m ≤ j → j < m + left → Part s j) × (offset s (m + left) + 16 ≤ length s)
 unfolding machines_read
 machines_whole zero s m at o e =
@@ -148,29 +142,29 @@ machines_whole (suc left) s m at o e =
     part j x y first rest (yes q) = rw q first
     part j x y first rest (no q) = rest j (omega (arith, q)) (omega arith)
 
-pub whole_readable : (s : List ℕ) → read_of s ≡ Read.Whole → Readable s
+pub whole_readable : (s : List ℕ) → read_of s ≡ Ok tt → Readable s
 unfolding read_of offset
 whole_readable s e =
     let a = field_whole s 0 2 _ e in
-    let b = picked (leb (machines s) 64) _ Read.TooManyMachines machines_not a.1 in
+    let b = picked (leb (machines s) 64) _ Misread.TooManyMachines a.1 in
     let r = machines_whole (machines s) s 0 2 refl b.1 in
     let z : 0 + machines s ≡ machines s = omega arith in
     record { few = leb-true _ _ b.0; parts = λ m l. r.0 m (omega arith) (omega arith); pool = rw z at r.1 }
 
 -- ---- the bytes are readable: nothing is wrong
 
-field_fine : (s : List ℕ) (at size : ℕ) (next : Read) → at + size ≤ length s → next ≡ Read.Whole → field s at size next ≡ Read.Whole
+field_fine : (s : List ℕ) (at size : ℕ) (next : Read) → at + size ≤ length s → next ≡ Ok tt → field s at size next ≡ Ok tt
 field_fine s at size next l e = simp (le-leb (at + size) (length s) l) e
 
-region_fine : (s : List ℕ) (m i at : ℕ) (next : Read) → at + 25 ≤ length s → get_or s (at + 24) 0 ≤ 2 → next ≡ Read.Whole → region_read s m i at next ≡ Read.Whole
+region_fine : (s : List ℕ) (m i at : ℕ) (next : Read) → at + 25 ≤ length s → get_or s (at + 24) 0 ≤ 2 → next ≡ Ok tt → region_read s m i at next ≡ Ok tt
 unfolding region_read
 region_fine s m i at next l k e =
     field_fine s at 8 _ (omega arith)
     (field_fine s (at + 8) 8 _ (omega arith)
     (field_fine s (at + 16) 8 _ (omega arith) (field_fine s (at + 24) 1 _ (omega arith) (simp (le-leb (get_or s (at + 24) 0) 2 k) e))))
 
-regions_fine : (n : ℕ) (s : List ℕ) (m i at : ℕ) (next : Read) → at + 25 * n ≤ length s → ((j : ℕ) → j < n → get_or s (at + 25 * j + 24) 0 ≤ 2) → next ≡ Read.Whole
-    → regions_read n s m i at next ≡ Read.Whole
+regions_fine : (n : ℕ) (s : List ℕ) (m i at : ℕ) (next : Read) → at + 25 * n ≤ length s → ((j : ℕ) → j < n → get_or s (at + 25 * j + 24) 0 ≤ 2) → next ≡ Ok tt
+    → regions_read n s m i at next ≡ Ok tt
 unfolding regions_read
 regions_fine zero s m i at next l k e = e
 regions_fine (suc n) s m i at next l k e =
@@ -178,7 +172,7 @@ regions_fine (suc n) s m i at next l k e =
     region_fine s m i at _ (omega arith) (rw z at (k 0 (omega arith)))
     (regions_fine n s m (suc i) (at + 25) next (omega arith) (λ j h. let p : at + 25 + 25 * j + 24 ≡ at + 25 * suc j + 24 = omega arith in rw p (k (suc j) (omega arith))) e)
 
-machine_fine : (s : List ℕ) (m at : ℕ) (next : Read) → at ≡ offset s m → Part s m → next ≡ Read.Whole → machine_read s m at next ≡ Read.Whole
+machine_fine : (s : List ℕ) (m at : ℕ) (next : Read) → at ≡ offset s m → Part s m → next ≡ Ok tt → machine_read s m at next ≡ Ok tt
 unfolding machine_read
 machine_fine s m at next o p e =
     let c : le16 s (at + 2) ≡ count s m = ap (λ (x : ℕ). le16 s (x + 2)) o in
@@ -191,7 +185,7 @@ machine_fine s m at next o p e =
     (regions_fine (le16 s (at + 2)) s m 0 (at + 4) next (omega arith)
     (λ j h. let q : at + 4 + 25 * j + 24 ≡ offset s m + (4 + 25 * j) + 24 = omega arith in rw q (p.kinds j (rw c at h))) e)))
 
-machines_fine : (left : ℕ) (s : List ℕ) (m at : ℕ) → at ≡ offset s m → ((j : ℕ) → j < m + left → Part s j) → offset s (m + left) + 16 ≤ length s → machines_read left s m at ≡ Read.Whole
+machines_fine : (left : ℕ) (s : List ℕ) (m at : ℕ) → at ≡ offset s m → ((j : ℕ) → j < m + left → Part s j) → offset s (m + left) + 16 ≤ length s → machines_read left s m at ≡ Ok tt
 unfolding machines_read
 machines_fine zero s m at o p l =
     let z : m + 0 ≡ m = omega arith in
@@ -201,7 +195,7 @@ machines_fine (suc left) s m at o p l =
     let z : suc m + left ≡ m + suc left = omega arith in
     machine_fine s m at _ o (p m (omega arith)) (machines_fine left s (suc m) _ (next_offset s m at o) (λ j h. p j (omega arith)) (rw z l))
 
-pub readable_whole : (s : List ℕ) → Readable s → read_of s ≡ Read.Whole
+pub readable_whole : (s : List ℕ) → Readable s → read_of s ≡ Ok tt
 unfolding read_of
 readable_whole s r =
     let z : 0 + machines s ≡ machines s = omega arith in
@@ -212,62 +206,59 @@ readable_whole s r =
 
 -- ---- the loops
 
--- left regions of machine m are to be read, from region i on, at p: what is found is what is found from the first on
-pub record Regions (s : List ℕ) (at n m left i p : ℕ) : Type 0 where
-  pub within : p ≤ length s
-  pub sum : left + i ≡ n
-  pub same : (next : Read) → regions_read n s m 0 at next ≡ regions_read left s m i p next
+-- the first i regions of machine m are read, and nothing is wrong: what is found is what is found from region i on
+pub record Regions (s : List ℕ) (at n m i : ℕ) : Type 0 where
+  pub within : at + 25 * i ≤ length s
+  pub same : (next : Read) → regions_read n s m 0 at next ≡ regions_read (n - i) s m i (at + 25 * i) next
 
-module _ {s : List ℕ} {at n m left i p : ℕ} {r : Read} (g : Regions s at n m left i p) (l : 0 < left) (c : (next : Read) → region_read s m i p next ≡ after r next) where
-  pub regions_stop : (r ≡ Read.Whole → ⊥) → (next : Read) → regions_read n s m 0 at next ≡ after r next
-  regions_stop w next = g.same next ∙ (regions_step left s m i p next l ∙ (c _ ∙ (after_stop r _ w ∙ sym (after_stop r next w))))
+pub regions_found : {s : List ℕ} {at n m i : ℕ} (r : Read) → Regions s at n m i → i < n → ((next : Read) → region_read s m i (at + 25 * i) next ≡ after r next)
+    → (next : Read) → regions_read n s m 0 at next ≡ after r (regions_read (n - i - 1) s m (i + 1) (at + 25 * i + 25) next)
+regions_found {s} {at} {n} {m} {i} r g l c next = g.same next ∙ (regions_step (n - i) s m i (at + 25 * i) next (omega arith) ∙ c _)
 
-  pub regions_more : r ≡ Read.Whole → Regions s at n m (left - 1) (i + 1) (p + 25)
-  regions_more w =
-      let h = (region_whole s m i p Read.Whole (c Read.Whole ∙ after_whole r Read.Whole w)).0 in
-      record {
-        within = h;
-        sum = let e = g.sum in omega arith;
-        same = λ next. g.same next ∙ (regions_step left s m i p next l ∙ (c _ ∙ after_whole r _ w));
-      }
+pub regions_more : {s : List ℕ} {at n m i : ℕ} → Regions s at n m i → i < n → ((next : Read) → region_read s m i (at + 25 * i) next ≡ next) → Regions s at n m (i + 1)
+regions_more {s} {at} {n} {m} {i} g l c =
+    let h = (region_whole s m i (at + 25 * i) (Ok tt) (c (Ok tt))).0 in
+    let p : at + 25 * i + 25 ≡ at + 25 * (i + 1) = omega arith in
+    let q : n - i - 1 ≡ n - (i + 1) = omega arith in
+    record { within = omega arith; same = λ next. rw (← p, ← q) (regions_found (Ok tt) g l c next) }
 
--- left machines are to be read, from machine m on, at `at`
-pub record Machines (s : List ℕ) (left m at : ℕ) : Type 0 where
+-- the first m machines are read, and nothing is wrong; the fields of machine m start at `at`
+pub record Machines (s : List ℕ) (m at : ℕ) : Type 0 where
   pub within : at ≤ length s
-  pub sum : left + m ≡ machines s
   pub few : machines s ≤ 64
   pub place : at ≡ offset s m
-  pub same : read_of s ≡ machines_read left s m at
+  pub same : read_of s ≡ machines_read (machines s - m) s m at
 
-module _ {s : List ℕ} {left m at : ℕ} {r : Read} (g : Machines s left m at) (l : 0 < left) (c : (next : Read) → machine_read s m at next ≡ after r next) where
-  pub machines_stop : (r ≡ Read.Whole → ⊥) → r ≡ read_of s
-  machines_stop w = sym (g.same ∙ (machines_step left s m at l ∙ (c _ ∙ after_stop r _ w)))
+module _ {s : List ℕ} {m at : ℕ} (g : Machines s m at) (l : m < machines s) where
+  pub machines_found : (r : Read) → ((next : Read) → machine_read s m at next ≡ after r next)
+      → read_of s ≡ after r (machines_read (machines s - m - 1) s (m + 1) (at + (4 + 25 * le16 s (at + 2))))
+  machines_found r c = g.same ∙ (machines_step (machines s - m) s m at (omega arith) ∙ c _)
 
-  pub machine_part : r ≡ Read.Whole → Part s m
-  machine_part w = (machine_whole s m at Read.Whole g.place (c Read.Whole ∙ after_whole r Read.Whole w)).0
+  module _ (c : (next : Read) → machine_read s m at next ≡ next) where
+    pub machine_part : Part s m
+    machine_part = (machine_whole s m at (Ok tt) g.place (c (Ok tt))).0
 
-  pub part_end : r ≡ Read.Whole → at + (4 + 25 * le16 s (at + 2)) ≤ length s
-  part_end w = let h = (machine_part w).whole in omega (arith, next_offset s m at g.place)
+    pub part_end : at + (4 + 25 * le16 s (at + 2)) ≤ length s
+    part_end = let h = machine_part.whole in omega (arith, next_offset s m at g.place)
 
-  pub part_few : r ≡ Read.Whole → le16 s (at + 2) ≤ 32
-  part_few w = let h = (machine_part w).few in rw g.place h
+    pub part_few : le16 s (at + 2) ≤ 32
+    part_few = let h = machine_part.few in rw g.place h
 
-  pub machines_more : r ≡ Read.Whole → Machines s (left - 1) (m + 1) (at + (4 + 25 * le16 s (at + 2)))
-  machines_more w =
-      record {
-        within = part_end w;
-        sum = let e = g.sum in omega arith;
-        few = g.few;
-        place = rw add-one (next_offset s m at g.place);
-        same = g.same ∙ (machines_step left s m at l ∙ (c _ ∙ after_whole r _ w));
-      }
+    pub machines_more : Machines s (m + 1) (at + (4 + 25 * le16 s (at + 2)))
+    machines_more =
+        let q : machines s - m - 1 ≡ machines s - (m + 1) = omega arith in
+        record {
+          within = part_end;
+          few = g.few;
+          place = rw add-one (next_offset s m at g.place);
+          same = rw (← q) (machines_found (Ok tt) c);
+        }
 
--- the first machine, where there are two bytes and at most 64 machines
-pub machines_first : (s : List ℕ) → 2 ≤ length s → machines s ≤ 64 → Machines s (machines s) 0 2
+-- before the first machine, where there are two bytes and at most 64 machines
+pub machines_first : (s : List ℕ) → 2 ≤ length s → machines s ≤ 64 → Machines s 0 2
 unfolding read_of offset
-machines_first s h l =
-    record { within = h; sum = omega arith; few = l; place = refl; same = simp (le-leb (0 + 2) (length s) h, le-leb (machines s) 64 l) }
+machines_first s h l = record { within = h; few = l; place = refl; same = let q : machines s - 0 ≡ machines s = omega arith in rw q (simp (le-leb (0 + 2) (length s) h, le-leb (machines s) 64 l)) }
 
 -- behind the last machine
-pub machines_end : {s : List ℕ} {left m at : ℕ} → Machines s left m at → left ≤ 0 → read_of s ≡ field s at 8 (field s (at + 8) 8 Read.Whole)
-machines_end {s} {left} {m} {at} g l = g.same ∙ machines_none left s m at l
+pub machines_end : {s : List ℕ} {m at : ℕ} → Machines s m at → machines s ≤ m → read_of s ≡ field s at 8 (field s (at + 8) 8 (Ok tt))
+machines_end {s} {m} {at} g l = g.same ∙ machines_none (machines s - m) s m at (omega arith)

@@ -6,7 +6,6 @@ use Rattle.config_codes.specs.declared.Four.{Four}
 
 -- the number of a fault
 unfoldable pub fault_number : Fault → ℕ
-fault_number Fault.Nothing = 0
 fault_number Fault.NoPage = 1
 fault_number Fault.GuestStart = 2
 fault_number Fault.HostStart = 3

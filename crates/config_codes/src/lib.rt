@@ -1,6 +1,6 @@
 // The answers about a configuration as numbers, for programs in other languages: a code for each reason,
 // and up to four numbers, which are its places in their order and 0 behind them.
-#![tactic(auto)]
+#![tactic(auto, unfolding(crate::specs::Codes::fault_number, crate::specs::Codes::reason_code, crate::specs::Codes::reason_numbers))]
 
 ghost use Rattle.std.specs.Prelude.{◌≡◌};
 ghost use Rattle.config_codes.specs.Codes.{fault_number, four_of, reason_code, reason_numbers};
@@ -22,7 +22,6 @@ fn fault_number(f: Fault) -> usize
     ensures { result ≡ fault_number f }
 {
     match f {
-        Fault::Nothing => 0,
         Fault::NoPage => 1,
         Fault::GuestStart => 2,
         Fault::HostStart => 3,
@@ -78,9 +77,9 @@ fn together(first: usize, second: usize, third: usize, fourth: usize) -> Four
     ensures { result ≡ four_of first second third fourth }
 {
     Four {
-        first: first,
-        second: second,
-        third: third,
-        fourth: fourth,
+        first,
+        second,
+        third,
+        fourth,
     }
 }

@@ -12,10 +12,7 @@ use Rattle.address.specs.declared.Region.{Region}
 use Rattle.region_words.specs.Words.{number_of}
 use Rattle.config_model.specs.Config.{Config}
 use Rattle.config_bytes.specs.Fields.{le16, le32, le64}
-use Rattle.config_view.specs.View.{viewed}
-use Rattle.config_view.proofs.Laws.{view_table, view_machines, view_count}
-use Rattle.config_kept.specs.Words.{Words}
-use Rattle.config_kept.proofs.Laws.{words_in_view}
+use Rattle.config_view.specs.Table.{table_config}
 use Rattle.base.proofs.Ranges.{set_only, only_then, only_none}
 use Rattle.config_encode.specs.Encoding.{Wrote, RegionBytes, WroteRegion, WroteRegions, MachineBytes, WroteMachine, WroteMachines, WroteAll, start_of, size_of}
 
@@ -201,12 +198,8 @@ wrote_all c n p host pages {o} {o1} {o2} {o3} {o4} e q h g x y z w =
           };
     }
 
--- ---- words in view
-
--- a number fits two bytes
-pub words_number : {s t : List ℕ} → Words s t → (m : ℕ) → (viewed s t).number m < 65536
-words_number {s} {t} w m = rw (view_table s t w.none) (omega arith)
+-- ---- the configuration of a table
 
 -- every place is small
-pub words_start : {s t : List ℕ} → Words s t → (m : ℕ) → m ≤ (viewed s t).machines → start_of (viewed s t) m ≤ 51458
-words_start {s} {t} w m l = let x = start_small (viewed s t) (view_count s t (words_in_view w)) m l in omega (arith, view_machines s t (words_in_view w))
+pub words_start : (t : List ℕ) (m : ℕ) → m ≤ (table_config t).machines → start_of (table_config t) m ≤ 51458
+words_start t m l = let x = start_small (table_config t) (λ k h. omega arith) m l in omega arith

@@ -1,14 +1,14 @@
-// Writes the bytes of a configuration that lies in a table. The bytes s are none, so that config_view
-// reads the words t; `at` is where the words of machine m start, and `p` where its bytes are written.
+// Writes the bytes of a configuration that lies in a table, the words t: `p` is where the bytes of
+// machine m are written.
 #![tactic(auto)]
 
 ghost use Rattle.std.specs.Prelude.{◌≡◌, ℕ, suc, ◌+◌, ◌*◌, ◌≤◌, ◌<◌, length};
 ghost use Rattle.config_bytes.specs.Fields.{le16, le32, le64};
-ghost use Rattle.config_view.specs.View.{viewed, place};
-ghost use Rattle.config_kept.specs.Words.{Words};
+ghost use Rattle.config_view.specs.Table.{table_config};
 ghost use Rattle.config_encode.specs.Encoding.{Wrote, WroteRegion, WroteRegions, WroteMachine, WroteMachines, WroteAll, start_of, size_of};
 
 use address::Region;
+use config_view::View;
 
 // Writes a number into the two bytes from `at` on.
 fn put16(o: &mut [u8], at: usize, v: u64)
@@ -45,92 +45,83 @@ fn put_region(o: &mut [u8], p: usize, r: Region)
     put64(o, p, r.guest);
     put64(o, p + 8, r.host);
     put64(o, p + 16, r.pages);
-    let kind = r.kind;
-    o[p + 24] = region_words::number_of(kind) as u8;
+    o[p + 24] = region_words::number_of(r.kind) as u8;
 }
 
 // Writes the n regions of machine m.
-fn put_regions(s: &[u8], t: &[u64], m: usize, n: usize, p: usize, o: &mut [u8])
-    requires words { Words s.now t.now }
-    requires m_bound { (m < (viewed s.now t.now).machines) × (n ≡ (viewed s.now t.now).count m) }
+fn put_regions(t: &[u64], m: usize, n: usize, p: usize, o: &mut [u8])
+    requires t_len { length t.now ≡ 8325 }
+    requires m_bound { (m < (table_config t.now).machines) × (n ≡ (table_config t.now).count m) }
     requires n_bound { (n ≤ 32) × (p + (4 + 25 * n) ≤ length o.old) }
-    ensures { WroteRegions (viewed s.now t.now) m n p o.old o.new }
+    ensures { WroteRegions (table_config t.now) m n p o.old o.new }
 {
-    let at = 130 * m;
-    let mut i = 0;
-    while i < n {
-        let r = config_view::region(s, t, m, at, i);
-        put_region(o, p + (4 + 25 * i), r);
-        i += 1;
+    let v = View::Table(t);
+    for i in 0..n {
+        put_region(o, p + (4 + 25 * i), v.region(m, 130 * m, i));
     }
 }
 
 // Writes the fields of machine m.
-fn put_machine(s: &[u8], t: &[u64], m: usize, p: usize, o: &mut [u8])
-    requires words { Words s.now t.now }
-    requires m_bound { m < (viewed s.now t.now).machines }
-    requires m_in_bounds { p + (4 + 25 * (viewed s.now t.now).count m) ≤ length o.old }
-    ensures { WroteMachine (viewed s.now t.now) m p o.old o.new }
+fn put_machine(t: &[u64], m: usize, p: usize, o: &mut [u8])
+    requires t_len { length t.now ≡ 8325 }
+    requires m_bound { m < (table_config t.now).machines }
+    requires m_in_bounds { p + (4 + 25 * (table_config t.now).count m) ≤ length o.old }
+    ensures { WroteMachine (table_config t.now) m p o.old o.new }
 {
-    let at = 130 * m;
-    let n = config_view::count(s, t, m, at);
-    let number = config_view::number(s, t, m, at);
-    put16(o, p, number);
+    let v = View::Table(t);
+    let n = v.count(m, 130 * m);
+    put16(o, p, v.number(m, 130 * m));
     put16(o, p + 2, n as u64);
-    put_regions(s, t, m, n, p, o);
+    put_regions(t, m, n, p, o);
 }
 
 // Where the fields of the machine behind machine m are written.
-fn behind(s: &[u8], t: &[u64], m: usize, p: usize) -> usize
-    requires words { Words s.now t.now }
-    requires m_bound { (m < (viewed s.now t.now).machines) × (p ≡ start_of (viewed s.now t.now) m) }
-    ensures { result ≡ start_of (viewed s.now t.now) (suc m) }
+fn behind(t: &[u64], m: usize, p: usize) -> usize
+    requires t_len { length t.now ≡ 8325 }
+    requires m_bound { (m < (table_config t.now).machines) × (p ≡ start_of (table_config t.now) m) }
+    ensures { result ≡ start_of (table_config t.now) (suc m) }
 {
-    p + (4 + 25 * config_view::count(s, t, m, 130 * m))
+    p + (4 + 25 * View::Table(t).count(m, 130 * m))
 }
 
 // Writes the fields of all machines, and answers where they end.
-fn put_machines(s: &[u8], t: &[u64], o: &mut [u8]) -> usize
-    requires words { Words s.now t.now }
-    requires t_in_bounds { size_of (viewed s.now t.now) ≤ length o.old }
-    ensures { (result ≡ start_of (viewed s.now t.now) (viewed s.now t.now).machines) × WroteMachines (viewed s.now t.now) (viewed s.now t.now).machines o.old o.new }
+fn put_machines(t: &[u64], o: &mut [u8]) -> usize
+    requires t_len { length t.now ≡ 8325 }
+    requires t_in_bounds { size_of (table_config t.now) ≤ length o.old }
+    ensures { (result ≡ start_of (table_config t.now) (table_config t.now).machines) × WroteMachines (table_config t.now) (table_config t.now).machines o.old o.new }
 {
-    let n = config_view::machines(s, t);
-    let mut m = 0;
+    let n = View::Table(t).machines();
     let mut p = 2;
-    while m < n {
-        put_machine(s, t, m, p, o);
-        p = behind(s, t, m, p);
-        m += 1;
+    for m in 0..n {
+        put_machine(t, m, p, o);
+        p = behind(t, m, p);
     }
     p
 }
 
 // How many bytes the configuration takes.
-pub fn size_of(s: &[u8], t: &[u64]) -> usize
-    requires { Words s.now t.now }
-    ensures { result ≡ size_of (viewed s.now t.now) }
+pub fn size_of(t: &[u64]) -> usize
+    requires { length t.now ≡ 8325 }
+    ensures { result ≡ size_of (table_config t.now) }
 {
-    let n = config_view::machines(s, t);
-    let mut m = 0;
+    let n = View::Table(t).machines();
     let mut p = 2;
-    while m < n {
-        p = behind(s, t, m, p);
-        m += 1;
+    for m in 0..n {
+        p = behind(t, m, p);
     }
     p + 16
 }
 
 // Writes the bytes of the configuration.
-pub fn put_all(s: &[u8], t: &[u64], o: &mut [u8])
-    requires words { Words s.now t.now }
-    requires t_in_bounds { size_of (viewed s.now t.now) ≤ length o.old }
-    ensures { WroteAll (viewed s.now t.now) o.old o.new }
+pub fn put_all(t: &[u64], o: &mut [u8])
+    requires t_len { length t.now ≡ 8325 }
+    requires t_in_bounds { size_of (table_config t.now) ≤ length o.old }
+    ensures { WroteAll (table_config t.now) o.old o.new }
 {
-    let pool = config_singles::pool_of(s, t);
-    let n = config_view::machines(s, t);
-    put16(o, 0, n as u64);
-    let p = put_machines(s, t, o);
+    let v = View::Table(t);
+    let pool = v.pool();
+    put16(o, 0, v.machines() as u64);
+    let p = put_machines(t, o);
     put64(o, p, pool.host);
     put64(o, p + 8, pool.pages);
 }

@@ -4,12 +4,13 @@ use Prim.Native.Nat.{ℕ, ◌<◌}
 use native.Mathlib.Omega.{arith}
 use Rattle.base.specs.Search.{Everywhere, First}
 use Rattle.address.specs.declared.Region.{Region}
-use Rattle.address.specs.Regions.{Valid}
+use Rattle.address.specs.Regions.{Valid, ValiditySays}
+use Rattle.std.specs.Prelude.{Err}
 use Rattle.config_model.specs.Config.{Config, HostMeets, Same}
 use Rattle.config_model.specs.Rules.{Differ, IsValid, OffPool, Alone, Together, Clear, WithAll, AllPairs}
 use Rattle.config_pairs.specs.Pairs.{Holds, Between, FirstClash}
 use Rattle.config_pairs.specs.declared.Rule.{Rule}
-use Rattle.config_rules.specs.Judging.{ToNumbers, ToValid, ToPoolValid, ToAlone, ToTogether, ToClear, HasFault, WrongSays}
+use Rattle.config_rules.specs.Judging.{ToNumbers, ToValid, ToPoolValid, ToAlone, ToTogether, ToClear, WrongSays}
 use Rattle.config_rules.specs.declared.Reason.{Reason}
 use Rattle.config_theorems.proofs.Round.{same_back}
 
@@ -114,9 +115,10 @@ module _ {c d : Config} (s : Same c d) where
       let w = x.1 in (
         numbers_too x.0,
         first_too (IsValid c) (IsValid d) s.machines s.count (valid_too s) (there s (valid_too (same_back s))) w,
-        subst (λ (r : Region). HasFault r.guest r.host r.pages f) (s.region m i w.row w.place) x.2,
+        subst (λ (r : Region). ValiditySays r.guest r.host r.pages (Err f)) (s.region m i w.row w.place) x.2,
       )
-  wrong_too (Reason.PoolNotValid f) x = (to_valid x.0, rw (← s.pool_host, ← s.pool_pages) x.1)
+  wrong_too (Reason.PoolNotValid f) x =
+      (to_valid x.0, subst (λ (h : ℕ). ValiditySays 0 h d.pool.pages (Err f)) s.pool_host (subst (λ (p : ℕ). ValiditySays 0 c.pool.host p (Err f)) s.pool_pages x.1))
   wrong_too (Reason.HostShared m i m' i') x = (to_pool_valid x.0, clash_too Rule.Alone m i m' i' x.1)
   wrong_too (Reason.NotCoinciding m i m' i') x = (to_alone x.0, clash_too Rule.Together m i m' i' x.1, x.2)
   wrong_too (Reason.OneMachine m i i') x = (to_alone x.0, clash_too Rule.Together m i m i' x.1)

@@ -1,8 +1,9 @@
 -- A configuration for each rule that one can break: what is wrong with it. Assumes nothing.
-use mathlib.Core.Path.{◌≡◌, refl, subst}
+use mathlib.Core.Path.{◌≡◌, refl}
 use Prim.Native.Nat.{ℕ, ◌<◌}
 use native.Mathlib.Omega.{arith}
 use lib.Dec.{lit<, lit≤}
+use Rattle.std.specs.Prelude.{Err}
 use Rattle.base.specs.Search.{First}
 use Rattle.address.specs.declared.Fault.{Fault}
 use Rattle.address.specs.declared.Kind.{Kind}
@@ -14,7 +15,7 @@ use Rattle.config_model.specs.Rules.{IsValid, OffPool, Alone, AllPairs, WithAll,
 use Rattle.config_model.proofs.Laws.{ok_rules}
 use Rattle.config_pairs.specs.Pairs.{Holds, Between, FirstClash}
 use Rattle.config_pairs.specs.declared.Rule.{Rule}
-use Rattle.config_rules.specs.Judging.{HasFault, WrongSays}
+use Rattle.config_rules.specs.Judging.{WrongSays}
 use Rattle.config_rules.specs.declared.Reason.{Reason}
 use Rattle.region_examples.proofs.Regions.{empty, guest_off, host_off, guest_high, host_high, empty_not, guest_off_not, host_off_not, guest_high_not, host_high_not}
 use Rattle.region_examples.proofs.Address.{validity_no_page, validity_guest_start, validity_host_start, validity_guest_end, validity_host_end}
@@ -33,10 +34,6 @@ at_once P width n l h f = record { row = l; place = h; fails = f; rows_before = 
 clash : (rule : Rule) (c : Config) (m i : ℕ) → 0 < c.machines → 0 < c.count 0 → First (Between rule c 0 0) c.count c.machines m i → FirstClash rule c 0 0 m i
 clash rule c m i l h x =
     record { first = at_once (WithAll (Holds rule) c) c.count c.machines l h (λ w. x.fails (w m i x.row x.place)); other = x }
-
--- what is not valid has the fault that is said of it
-has_fault : (guest host pages : ℕ) (f : Fault) → ValiditySays guest host pages f → (Valid guest host pages → ⊥) → HasFault guest host pages f
-has_fault guest host pages f is not = record { some = λ e. not (subst (λ (y : Fault). ValiditySays guest host pages y) e is); is = is }
 
 -- ---- one number
 
@@ -60,9 +57,9 @@ same_number =
 abbrev pub bad : Region → Config
 bad a = two 7 9 a second 65536 2
 
-not_valid : (a : Region) (f : Fault) → ValiditySays a.guest a.host a.pages f → (Valid a.guest a.host a.pages → ⊥) → WrongSays (bad a) (Reason.NotValid 0 0 f)
+not_valid : (a : Region) (f : Fault) → ValiditySays a.guest a.host a.pages (Err f) → (Valid a.guest a.host a.pages → ⊥) → WrongSays (bad a) (Reason.NotValid 0 0 f)
 not_valid a f is not =
-    (truck_rules.numbers, at_once (IsValid (bad a)) (λ m. 1) 2 (lit< tt) (lit< tt) not, has_fault a.guest a.host a.pages f is not)
+    (truck_rules.numbers, at_once (IsValid (bad a)) (λ m. 1) 2 (lit< tt) (lit< tt) not, is)
 
 -- one for each condition
 pub no_page : WrongSays (bad empty) (Reason.NotValid 0 0 Fault.NoPage)
@@ -84,36 +81,28 @@ host_end = not_valid host_high Fault.HostEnd validity_host_end host_high_not
 abbrev pub bad_pool : ℕ → ℕ → Config
 bad_pool host pages = two 7 9 first second host pages
 
-pool_not_valid : (host pages : ℕ) (f : Fault) → ValiditySays 0 host pages f → (Valid 0 host pages → ⊥) → WrongSays (bad_pool host pages) (Reason.PoolNotValid f)
-pool_not_valid host pages f is not = ((truck_rules.numbers, truck_rules.valid), has_fault 0 host pages f is not)
+pool_not_valid : (host pages : ℕ) (f : Fault) → ValiditySays 0 host pages (Err f) → WrongSays (bad_pool host pages) (Reason.PoolNotValid f)
+pool_not_valid host pages f is = ((truck_rules.numbers, truck_rules.valid), is)
 
 -- one for each condition but that on the guest start
 pub pool_no_page : WrongSays (bad_pool 65536 0) (Reason.PoolNotValid Fault.NoPage)
-pool_no_page = pool_not_valid 65536 0 Fault.NoPage refl (λ v. let s = v.on.some in omega arith)
+pool_no_page = pool_not_valid 65536 0 Fault.NoPage refl
 
 pub pool_host_start : WrongSays (bad_pool 65537 2) (Reason.PoolNotValid Fault.HostStart)
-pool_host_start = pool_not_valid 65537 2 Fault.HostStart (lit< tt, refl, λ e. omega (arith, e)) (λ v. let s = v.on.host_start in omega arith)
+pool_host_start = pool_not_valid 65537 2 Fault.HostStart (lit< tt, refl, λ e. omega (arith, e))
 
 -- 2^52 pages
 pub pool_guest_end : WrongSays (bad_pool 65536 4503599627370496) (Reason.PoolNotValid Fault.GuestEnd)
 pool_guest_end =
     pool_not_valid 65536 4503599627370496 Fault.GuestEnd (record { some = lit< tt; guest_start = refl; host_start = refl }, λ f. omega (arith, f))
-    (λ v. omega (arith, v.guest_end))
 
 pub pool_host_end : WrongSays (bad_pool 18446744073709547520 2) (Reason.PoolNotValid Fault.HostEnd)
 pool_host_end =
     pool_not_valid 18446744073709547520 2 Fault.HostEnd (record { some = lit< tt; guest_start = refl; host_start = refl }, lit< tt, λ f. omega (arith, f))
-    (λ v. omega (arith, v.host_end))
 
--- no region is wrong for a condition that it does not break, nor the allocator's for its guest start, which is 0
-pub not_for_nothing : (c : Config) (m i : ℕ) → WrongSays c (Reason.NotValid m i Fault.Nothing) → ⊥
-not_for_nothing c m i x = x.2.some refl
-
-pub pool_not_for_nothing : (c : Config) → WrongSays c (Reason.PoolNotValid Fault.Nothing) → ⊥
-pool_not_for_nothing c x = x.1.some refl
-
+-- the allocator's region is not wrong for its guest start, which is 0
 pub pool_not_for_guest : (c : Config) → WrongSays c (Reason.PoolNotValid Fault.GuestStart) → ⊥
-pool_not_for_guest c x = let y = x.1.is in y.1 refl
+pool_not_for_guest c x = x.1.1 refl
 
 -- ---- one host page for two machines
 

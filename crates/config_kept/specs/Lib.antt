@@ -1,2 +1,2 @@
 -- What is asked of the words.
-pub mod Words
+pub mod Kept

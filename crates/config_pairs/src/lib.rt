@@ -3,16 +3,17 @@
 
 ghost use Rattle.std.specs.Prelude.{◌≡◌, ℕ, ◌+◌, ◌≤◌, ◌<◌, length};
 ghost use Rattle.base.specs.Says.{Says};
-ghost use Rattle.base.specs.Search.{Stops};
 ghost use Rattle.address.specs.declared.Kind.{Kind};
 ghost use Rattle.config_model.specs.Rules.{Alone, Together, Clear};
 ghost use Rattle.config_view.specs.View.{viewed, place, InView};
-ghost use Rattle.config_pairs.specs.Pairs.{Holds, Small, SparesSays, ApartSays, SpotSays, HitSays, ClashSays};
+ghost use Rattle.config_pairs.specs.Pairs.{Holds, Small, SparesSays, ApartSays, FoundSays, SpotSays, HitSays, ClashSays};
 
 use address::{Kind, Region};
+use config_view::View;
 
-// A rule on two regions.
-#[derive(Clone, Copy)]
+// A rule on two regions. No closure, since a rule is three functions (`fine`, `spares`, `apart`), and what
+// `config::check` promises of a refusal names the rule.
+#[derive(Clone, Copy, Debug, PartialEq, Eq)]
 pub enum Rule {
     // An ordinary or device region shares no host page with another region.
     Alone,
@@ -22,66 +23,18 @@ pub enum Rule {
     Clear,
 }
 
-// A place in a configuration: a machine, and one of its regions or another machine.
-#[derive(Drop)]
-pub enum Spot {
-    Nowhere,
-    At(usize, usize),
-}
-
-// A region of one machine, and the machine and region with which it may not stand.
-#[derive(Drop)]
-pub enum Hit {
-    Nowhere,
-    At(usize, usize, usize),
-}
-
-// Two places in a configuration.
-#[derive(Drop)]
-pub enum Clash {
-    Nowhere,
-    At(usize, usize, usize, usize),
-}
-
 // Whether a region is shared.
 fn is_shared(r: Region) -> bool
     ensures { Says result (r.kind ≡ Kind.Shared) }
 {
-    let k = r.kind;
-    match k {
-        Kind::Ordinary => false,
-        Kind::Device => false,
-        Kind::Shared => true,
-    }
-}
-
-// Whether two places are one.
-fn one_place(m: usize, i: usize, m2: usize, i2: usize) -> bool
-    ensures { Says result ((m ≡ m2) × (i ≡ i2)) }
-{
-    if m != m2 {
-        return false;
-    }
-    if i != i2 {
-        return false;
-    }
-    true
+    matches!(r.kind, Kind::Shared)
 }
 
 // Whether a, where it is not shared, and b have no host page in common, unless they are one.
 fn alone(m: usize, i: usize, a: Region, m2: usize, i2: usize, b: Region) -> bool
     ensures { Says result (Alone m i a m2 i2 b) }
 {
-    if !address::overlaps_pmem(a, b) {
-        return true;
-    }
-    if one_place(m, i, m2, i2) {
-        return true;
-    }
-    if is_shared(a) {
-        return true;
-    }
-    false
+    is_shared(a) || (m == m2 && i == i2) || !address::overlaps_pmem(a, b)
 }
 
 // Whether two shared regions, of which a stands before b, may share what they share.
@@ -89,44 +42,18 @@ fn together(m: usize, i: usize, a: Region, m2: usize, i2: usize, b: Region) -> b
     requires { Small m i × Small m2 i2 }
     ensures { Says result (Together m i a m2 i2 b) }
 {
-    if !address::overlaps_pmem(a, b) {
-        return true;
-    }
-    if 32 * m2 + i2 <= 32 * m + i {
-        return true;
-    }
-    if !is_shared(a) {
-        return true;
-    }
-    if !is_shared(b) {
-        return true;
-    }
-    if m == m2 {
-        return false;
-    }
-    if a.host != b.host {
-        return false;
-    }
-    if a.pages != b.pages {
-        return false;
-    }
-    true
+    !is_shared(a)
+        || !is_shared(b)
+        || 32 * m2 + i2 <= 32 * m + i
+        || !address::overlaps_pmem(a, b)
+        || (m != m2 && a.host == b.host && a.pages == b.pages)
 }
 
 // Whether two regions of one machine, of which a stands before b, have no guest page in common.
 fn clear(m: usize, i: usize, a: Region, m2: usize, i2: usize, b: Region) -> bool
     ensures { Says result (Clear m i a m2 i2 b) }
 {
-    if m != m2 {
-        return true;
-    }
-    if i2 <= i {
-        return true;
-    }
-    if address::overlaps_vmem(a, b) {
-        return false;
-    }
-    true
+    m != m2 || i2 <= i || !address::overlaps_vmem(a, b)
 }
 
 // Whether a rule holds of a, region i of machine m, and b, region i2 of machine m2.
@@ -147,12 +74,7 @@ fn spares(rule: Rule, a: Region) -> bool
 {
     match rule {
         Rule::Alone => is_shared(a),
-        Rule::Together => {
-            if is_shared(a) {
-                return false;
-            }
-            true
-        }
+        Rule::Together => !is_shared(a),
         Rule::Clear => false,
     }
 }
@@ -163,109 +85,87 @@ fn apart(rule: Rule, m: usize, m2: usize) -> bool
 {
     match rule {
         Rule::Alone => false,
-        Rule::Together => {
-            if m2 < m {
-                return true;
-            }
-            false
-        }
-        Rule::Clear => {
-            if m2 == m {
-                return false;
-            }
-            true
-        }
+        Rule::Together => m2 < m,
+        Rule::Clear => m2 != m,
     }
 }
 
 // The first region of machine m2 of which the rule does not hold with a, region i of machine m.
 fn find_in(
-    s: &[u8],
-    t: &[u64],
+    v: &View<'_>,
     rule: Rule,
     m: usize,
     i: usize,
     a: Region,
     m2: usize,
     at: usize,
-) -> usize
-    requires in_view { InView s.now t.now }
-    requires m2_bound { (m2 < (viewed s.now t.now).machines) × (at ≡ place s.now t.now m2) }
+) -> Option<usize>
+    requires in_view { InView v.now }
+    requires m2_bound { (m2 < (viewed v.now).machines) × (at ≡ place v.now m2) }
     requires small { Small m i }
-    ensures { Stops (λ i2. Holds rule m i a m2 i2 ((viewed s.now t.now).region m2 i2)) 0 ((viewed s.now t.now).count m2) result }
+    ensures { FoundSays (λ i2. Holds rule m i a m2 i2 ((viewed v.now).region m2 i2)) ((viewed v.now).count m2) result }
 {
-    let n = config_view::count(s, t, m2, at);
     if apart(rule, m, m2) {
-        return n;
+        return None;
     }
-    let mut i2 = 0;
-    while i2 < n {
-        let b = config_view::region(s, t, m2, at, i2);
-        if !fine(rule, m, i, a, m2, i2, b) {
-            return i2;
+    let n = v.count(m2, at);
+    for i2 in 0..n {
+        if !fine(rule, m, i, a, m2, i2, v.region(m2, at, i2)) {
+            return Some(i2);
         }
-        i2 += 1;
     }
-    i2
+    None
 }
 
-// The first region of all of which the rule does not hold with a, region i of machine m.
-fn find(s: &[u8], t: &[u64], rule: Rule, m: usize, i: usize, a: Region) -> Spot
-    requires in_view { InView s.now t.now }
+// The first region of all of which the rule does not hold with a, region i of machine m, by its machine and
+// its place there.
+fn find(v: &View<'_>, rule: Rule, m: usize, i: usize, a: Region) -> Option<(usize, usize)>
+    requires in_view { InView v.now }
     requires small { Small m i }
-    ensures { SpotSays (λ m2 i2. Holds rule m i a m2 i2 ((viewed s.now t.now).region m2 i2)) (viewed s.now t.now).count (viewed s.now t.now).machines result }
+    ensures { SpotSays (λ m2 i2. Holds rule m i a m2 i2 ((viewed v.now).region m2 i2)) (viewed v.now).count (viewed v.now).machines result }
 {
     if spares(rule, a) {
-        return Spot::Nowhere;
+        return None;
     }
-    let n = config_view::machines(s, t);
-    let mut m2 = 0;
-    let mut at = config_view::first(s, t);
-    while m2 < n {
-        let i2 = find_in(s, t, rule, m, i, a, m2, at);
-        if i2 < config_view::count(s, t, m2, at) {
-            return Spot::At(m2, i2);
+    let n = v.machines();
+    let mut at = v.first();
+    for m2 in 0..n {
+        if let Some(i2) = find_in(v, rule, m, i, a, m2, at) {
+            return Some((m2, i2));
         }
-        at = config_view::next(s, t, m2, at);
-        m2 += 1;
+        at = v.next(m2, at);
     }
-    Spot::Nowhere
+    None
 }
 
 // The first region of machine m with which some region may not stand, and the first such.
-fn clash_in(s: &[u8], t: &[u64], rule: Rule, m: usize, at: usize) -> Hit
-    requires in_view { InView s.now t.now }
-    requires m_bound { (m < (viewed s.now t.now).machines) × (at ≡ place s.now t.now m) }
-    ensures { HitSays rule (viewed s.now t.now) m result }
+fn clash_in(v: &View<'_>, rule: Rule, m: usize, at: usize) -> Option<(usize, usize, usize)>
+    requires in_view { InView v.now }
+    requires m_bound { (m < (viewed v.now).machines) × (at ≡ place v.now m) }
+    ensures { HitSays rule (viewed v.now) m result }
 {
-    let n = config_view::count(s, t, m, at);
-    let mut i = 0;
-    while i < n {
-        let a = config_view::region(s, t, m, at, i);
-        match find(s, t, rule, m, i, a) {
-            Spot::Nowhere => {}
-            Spot::At(m2, i2) => return Hit::At(i, m2, i2),
+    let n = v.count(m, at);
+    for i in 0..n {
+        if let Some((m2, i2)) = find(v, rule, m, i, v.region(m, at, i)) {
+            return Some((i, m2, i2));
         }
-        i += 1;
     }
-    Hit::Nowhere
+    None
 }
 
-// The first region of all with which some region may not stand, and the first such.
-pub fn clash_of(s: &[u8], t: &[u64], rule: Rule) -> Clash
-    requires { InView s.now t.now }
-    ensures { ClashSays rule (viewed s.now t.now) result }
+// The first region of all with which some region may not stand, and the first such, each by its machine and
+// its place there.
+pub fn clash_of(v: &View<'_>, rule: Rule) -> Option<(usize, usize, usize, usize)>
+    requires { InView v.now }
+    ensures { ClashSays rule (viewed v.now) result }
 {
-    let n = config_view::machines(s, t);
-    let mut m = 0;
-    let mut at = config_view::first(s, t);
-    while m < n {
-        match clash_in(s, t, rule, m, at) {
-            Hit::Nowhere => {}
-            Hit::At(i, m2, i2) => return Clash::At(m, i, m2, i2),
+    let n = v.machines();
+    let mut at = v.first();
+    for m in 0..n {
+        if let Some((i, m2, i2)) = clash_in(v, rule, m, at) {
+            return Some((m, i, m2, i2));
         }
-        at = config_view::next(s, t, m, at);
-        m += 1;
+        at = v.next(m, at);
     }
-    Clash::Nowhere
+    None
 }

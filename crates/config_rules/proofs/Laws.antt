@@ -2,67 +2,45 @@
 use mathlib.Core.Path.{◌≡◌, sym, subst}
 use Prim.Native.Nat.{ℕ}
 use native.Mathlib.Decide.{ℕ_discrete}
-use Rattle.base.specs.Search.{Everywhere}
-use Rattle.config_model.specs.Config.{Config}
-use Rattle.config_model.specs.Rules.{Differ, OffPool, Rules}
+use Rattle.std.specs.Prelude.{Option, Some, None, Result, Ok, Err}
+use Rattle.base.specs.Search.{First}
 use Rattle.address.specs.declared.Fault.{Fault}
-use Rattle.address.specs.declared.Region.{Region}
 use Rattle.address.specs.Regions.{Valid, ValiditySays}
-use Rattle.config_pairs.specs.Pairs.{SpotSays, ClashSays, FirstClash}
+use Rattle.address.proofs.Laws.{faulty}
+use Rattle.address.specs.declared.Region.{Region}
+use Rattle.config_model.specs.Config.{Config}
+use Rattle.config_pairs.specs.Pairs.{FirstClash}
 use Rattle.config_pairs.specs.declared.Rule.{Rule}
-use Rattle.config_pairs.specs.declared.Spot.{Spot}
-use Rattle.config_pairs.specs.declared.Clash.{Clash}
-use Rattle.config_rules.specs.declared.Reason.{Reason}
-use Rattle.config_singles.specs.declared.Each.{Each}
-use Rattle.config_singles.specs.declared.Bad.{Bad}
-use Rattle.config_singles.specs.Singles.{BadSays, FirstBad}
-use Rattle.config_rules.specs.Judging.{ToNumbers, ToAlone, ToTogether, ToClear, WrongSays}
+use Rattle.config_singles.specs.Singles.{Refused, RefusedSays}
+use Rattle.config_rules.specs.Judging.{NotValidSays}
 
--- ---- answers, once they are known
+-- a test that refuses exactly the regions that break a rule finds the first of them
+pub rule_broken : {E : Type 0} {Says : Region → Result (Unit {0}) E → Type 0} {c : Config} {m i : ℕ} {e : E} (Holds : Region → Type 0) → Refused Says c m i e
+    → ((r : Region) → Says r (Ok tt) → Holds r) → (Says (c.region m i) (Err e) → Holds (c.region m i) → ⊥)
+    → First (λ m i. Holds (c.region m i)) c.count c.machines m i
+rule_broken Holds f accepts refuses =
+    record {
+      row = f.row;
+      place = f.in_row.place;
+      fails = refuses f.in_row.is;
+      rows_before = λ a b l h. accepts _ (f.rows_before a b l h);
+      before = λ k l. accepts _ (f.in_row.before k l);
+    }
 
-pub told_numbers : (c : Config) (r r' : Spot) → r ≡ r' → SpotSays (Differ c) (λ k. c.machines) c.machines r → SpotSays (Differ c) (λ k. c.machines) c.machines r'
-told_numbers c r r' e x = subst (λ (y : Spot). SpotSays (Differ c) (λ k. c.machines) c.machines y) e x
+-- what a test found that says of a region what `ValiditySays` does
+pub validity_found : {Says : Region → Result (Unit {0}) Fault → Type 0} (c : Config) (o : Option (ℕ × ℕ × Fault)) → RefusedSays Says c o
+    → ((r : Region) (a : Result (Unit {0}) Fault) → Says r a → ValiditySays r.guest r.host r.pages a) → NotValidSays c o
+validity_found c None x says = λ a b l h. says _ (Ok tt) (x.first a b l h)
+validity_found c (Some (m, i, f)) x says =
+    let s = says (c.region m i) (Err f) x.first.in_row.is in (rule_broken (λ r. Valid r.guest r.host r.pages) x.first (λ r p. says r (Ok tt) p) (λ p v. faulty f s v), s)
 
-pub told_bad : (each : Each) (p q : Region) (c : Config) (r r' : Bad) → p ≡ q → r ≡ r' → BadSays each p c r → BadSays each q c r'
-told_bad each p q c r r' k e x = subst (λ (y : Bad). BadSays each q c y) e (subst (λ (z : Region). BadSays each z c r) k x)
+pub one_machine : (c : Config) (m i m' i' : ℕ) → FirstClash Rule.Together c m i m' i' → m ≡ m' → FirstClash Rule.Together c m i m i'
+one_machine c m i m' i' x e = subst (λ (k : ℕ). FirstClash Rule.Together c m i k i') (sym e) x
 
-pub told_clash : (rule : Rule) (c : Config) (r r' : Clash) → r ≡ r' → ClashSays rule c r → ClashSays rule c r'
-told_clash rule c r r' e x = subst (λ (y : Clash). ClashSays rule c y) e x
-
--- the allocator's region has the fault f
-pub pool_fault : (c : Config) (p : Region) (f : Fault) → p ≡ c.pool → ValiditySays 0 p.host p.pages f → ValiditySays 0 c.pool.host c.pool.pages f
-pool_fault c p f e x = subst (λ (z : Region). ValiditySays 0 z.host z.pages f) e x
-
-told_fault : (guest host pages : ℕ) (f : Fault) → f ≡ Fault.Nothing → ValiditySays guest host pages f → Valid guest host pages
-told_fault guest host pages f e x = subst (λ (y : Fault). ValiditySays guest host pages y) e x
-
-pub pool_right : (c : Config) (p : Region) (f : Fault) → p ≡ c.pool → f ≡ Fault.Nothing → ValiditySays 0 p.host p.pages f → Valid 0 c.pool.host c.pool.pages
-pool_right c p f e n x = told_fault 0 c.pool.host c.pool.pages f n (pool_fault c p f e x)
-
--- ---- reasons
-
-pub not_valid : (c : Config) (p : Region) (m i : ℕ) (f : Fault) → ToNumbers c → FirstBad Each.Valid p c m i f → WrongSays c (Reason.NotValid m i f)
-not_valid c p m i f n b = (n, b.first, record { some = λ e. b.first.fails (told_fault _ _ _ f e b.fault); is = b.fault })
-
-pub one_machine : (c : Config) (m i m' i' : ℕ) → ToAlone c → FirstClash Rule.Together c m i m' i' → m ≡ m' → WrongSays c (Reason.OneMachine m i i')
-one_machine c m i m' i' a x e = (a, subst (λ (k : ℕ). FirstClash Rule.Together c m i k i') (sym e) x)
-
-pub guest_shared : (c : Config) (m i m' i' : ℕ) → ToTogether c → FirstClash Rule.Clear c m i m' i' → WrongSays c (Reason.GuestShared m i i')
-guest_shared c m i m' i' a x = (a, go (ℕ_discrete m m'))
+-- two regions of one machine, where no two of different machines break the rule
+pub guest_shared : (c : Config) (m i m' i' : ℕ) → FirstClash Rule.Clear c m i m' i' → FirstClash Rule.Clear c m i m i'
+guest_shared c m i m' i' x = go (ℕ_discrete m m')
   where
     go : Dec (m ≡ m') → FirstClash Rule.Clear c m i m i'
     go (yes e) = subst (λ (k : ℕ). FirstClash Rule.Clear c m i k i') (sym e) x
     go (no n) = absurd (x.other.fails (λ e l s. n e))
-
--- all rules
-pub all_rules : (c : Config) → ToClear c → Everywhere (OffPool c) c.count c.machines → Rules c
-all_rules c x y =
-    record {
-      numbers = x.0.0.0.0.0;
-      valid = x.0.0.0.0.1;
-      pool_valid = x.0.0.0.1;
-      alone = x.0.0.1;
-      together = x.0.1;
-      clear = x.1;
-      off_pool = y;
-    }

@@ -2,17 +2,18 @@
 #![tactic(auto)]
 
 ghost use Rattle.std.specs.Prelude.{◌≡◌};
-ghost use Rattle.base.specs.Says.{Says};
-ghost use Rattle.address.specs.declared.Fault.{Fault};
+ghost use Rattle.config_model.specs.Rules.{OffPool};
+ghost use Rattle.config_pairs.specs.Pairs.{SpotSays};
 ghost use Rattle.config_view.specs.View.{viewed, InView};
-ghost use Rattle.config_rules.specs.Judging.{JudgeSays};
+ghost use Rattle.config_rules.specs.Judging.{NotValidSays, JudgeSays};
 
-use address::{Fault, Kind, Region};
-use config_pairs::{Clash, Rule, Spot};
-use config_singles::{Bad, Each};
+use address::{Fault, Region};
+use config_pairs::{Rule, clash_of};
+use config_singles::refused_of;
+use config_view::View;
 
 // Why a configuration is refused. Machines and regions are named by their places, counted from 0.
-#[derive(Clone, Copy)]
+#[derive(Clone, Copy, Debug, PartialEq, Eq)]
 pub enum Reason {
     // The field at an offset is not whole.
     TooShort(usize),
@@ -42,70 +43,60 @@ pub enum Reason {
     LeftOver(usize),
 }
 
-// Whether a configuration is right, or the first rule that it breaks.
-#[derive(Drop)]
-pub enum Judged {
-    Right,
-    Wrong(Reason),
+// The first region that is not valid, and its fault.
+fn not_valid(v: &View<'_>) -> Option<(usize, usize, Fault)>
+    requires { InView v.now }
+    ensures { NotValidSays (viewed v.now) result }
+{
+    refused_of(v, &address::validity)
 }
 
-// Whether there is no fault.
-fn faultless(f: Fault) -> bool
-    ensures { Says result (f ≡ Fault.Nothing) }
+// The first region that shares a host page with the allocator's.
+fn in_pool(v: &View<'_>, pool: Region) -> Option<(usize, usize)>
+    requires in_view { InView v.now }
+    requires is_pool { pool ≡ (viewed v.now).pool }
+    ensures { SpotSays (OffPool (viewed v.now)) (viewed v.now).count (viewed v.now).machines result }
 {
-    match f {
-        Fault::Nothing => true,
-        Fault::NoPage => false,
-        Fault::GuestStart => false,
-        Fault::HostStart => false,
-        Fault::GuestEnd => false,
-        Fault::HostEnd => false,
+    let off_pool = |r: Region| if address::overlaps_pmem(pool, r) {
+        Err(())
+    } else {
+        Ok(())
+    };
+    if let Some((m, i, ())) = refused_of(v, &off_pool) {
+        return Some((m, i));
     }
+    None
 }
 
 // Tries the rules in their order.
-pub fn judge(s: &[u8], t: &[u64]) -> Judged
-    requires { InView s.now t.now }
-    ensures { JudgeSays (viewed s.now t.now) result }
+pub fn judge(v: &View<'_>) -> Result<(), Reason>
+    requires { InView v.now }
+    ensures { JudgeSays (viewed v.now) result }
 {
-    match config_singles::numbers(s, t) {
-        Spot::Nowhere => {}
-        Spot::At(m, m2) => return Judged::Wrong(Reason::SameNumber(m, m2)),
+    if let Some((m, m2)) = config_singles::numbers(v) {
+        return Err(Reason::SameNumber(m, m2));
     }
-    let pool = config_singles::pool_of(s, t);
-    match config_singles::bad_of(s, t, Each::Valid, pool) {
-        Bad::Nowhere => {}
-        Bad::At(m, i, f) => return Judged::Wrong(Reason::NotValid(m, i, f)),
+    if let Some((m, i, f)) = not_valid(v) {
+        return Err(Reason::NotValid(m, i, f));
     }
-    let f = address::validity(Region {
-        guest: 0,
-        host: pool.host,
-        pages: pool.pages,
-        kind: Kind::Ordinary,
-    });
-    if !faultless(f) {
-        return Judged::Wrong(Reason::PoolNotValid(f));
+    let pool = v.pool();
+    if let Err(f) = address::validity(Region { guest: 0, ..pool }) {
+        return Err(Reason::PoolNotValid(f));
     }
-    match config_pairs::clash_of(s, t, Rule::Alone) {
-        Clash::Nowhere => {}
-        Clash::At(m, i, m2, i2) => return Judged::Wrong(Reason::HostShared(m, i, m2, i2)),
+    if let Some((m, i, m2, i2)) = clash_of(v, Rule::Alone) {
+        return Err(Reason::HostShared(m, i, m2, i2));
     }
-    match config_pairs::clash_of(s, t, Rule::Together) {
-        Clash::Nowhere => {}
-        Clash::At(m, i, m2, i2) => {
-            if m == m2 {
-                return Judged::Wrong(Reason::OneMachine(m, i, i2));
-            }
-            return Judged::Wrong(Reason::NotCoinciding(m, i, m2, i2));
+    if let Some((m, i, m2, i2)) = clash_of(v, Rule::Together) {
+        if m == m2 {
+            return Err(Reason::OneMachine(m, i, i2));
         }
+        return Err(Reason::NotCoinciding(m, i, m2, i2));
     }
-    match config_pairs::clash_of(s, t, Rule::Clear) {
-        Clash::Nowhere => {}
-        Clash::At(m, i, _, i2) => return Judged::Wrong(Reason::GuestShared(m, i, i2)),
+    if let Some((m, i, _, i2)) = clash_of(v, Rule::Clear) {
+        return Err(Reason::GuestShared(m, i, i2));
     }
-    match config_singles::bad_of(s, t, Each::OffPool, pool) {
-        Bad::Nowhere => {}
-        Bad::At(m, i, _) => return Judged::Wrong(Reason::PoolShared(m, i)),
+    if let Some((m, i)) = in_pool(v, pool) {
+        return Err(Reason::PoolShared(m, i));
     }
-    Judged::Right
+    Ok(())
 }

@@ -1,2 +1,2 @@
--- What the rules on one region ask.
+-- What the searches find.
 pub mod Singles

@@ -5,140 +5,131 @@
 // those of the configuration; `config::check_table` decides whether words are one.
 #![tactic(auto)]
 
-ghost use Rattle.config_table.specs.Holding.{MachinesSays, MachineSays, NumberSays, CountSays, RegionSays, PoolSays, GivenSays};
+ghost use Rattle.config_table.specs.Holding.{MachinesSays, MachineSays, NumberSays, CountSays, RegionSays, PoolSays, GivenSays, unlisted};
+ghost use Rattle.std.specs.Prelude.{◌≡◌};
+ghost use Rattle.config_table.specs.declared.Unlisted.{Unlisted};
 
 use address::Region;
 
-// How many there are, the place of a machine, or its number.
-#[derive(Drop)]
-pub enum Counted {
-    Number(usize),
-    // There is no such machine. Each enum below that has this variant means the same by it.
+// The words are not as many as a table has.
+#[derive(Clone, Copy, Debug, PartialEq, Eq)]
+pub struct NoTable;
+
+// Why nothing is said of a machine.
+#[derive(Clone, Copy, Debug, PartialEq, Eq)]
+pub enum Unlisted {
+    // There is no such machine.
     NoMachine,
-    // The words are not as many as a table has. Each enum below that has this variant means the same by it.
+    // The words are not as many as a table has.
     NoTable,
 }
 
-// A region of the table.
-#[derive(Drop)]
-pub enum Found {
-    Is(Region),
-    NoMachine,
+// Why a machine's region is not found.
+#[derive(Clone, Copy, Debug, PartialEq, Eq)]
+pub enum NoRegion {
     // The machine has no such region.
     NoRegion,
+    // There is no such machine.
+    NoMachine,
+    // The words are not as many as a table has.
     NoTable,
 }
 
-// Whether a machine is given a region.
-#[derive(Drop)]
-pub enum Given {
-    // It is, as the first region that is the same in every field.
-    At(usize),
-    No,
-    NoMachine,
-    NoTable,
+impl From<NoTable> for Unlisted {
+    ghost from_gives = { λ _ e. e ≡ Unlisted.NoTable };
+
+    fn from(_why: NoTable) -> Unlisted {
+        Self::NoTable
+    }
+}
+
+impl From<Unlisted> for NoRegion {
+    ghost from_gives = { λ why e. e ≡ unlisted why };
+
+    fn from(why: Unlisted) -> NoRegion {
+        match why {
+            Unlisted::NoMachine => Self::NoMachine,
+            Unlisted::NoTable => Self::NoTable,
+        }
+    }
 }
 
 // How many machines there are.
-pub fn machines(table: &[u64]) -> Counted
+pub fn machines(table: &[u64]) -> Result<usize, NoTable>
     ensures { MachinesSays table.now result }
 {
     if table.len() != 8325 {
-        return Counted::NoTable;
+        return Err(NoTable);
     }
-    Counted::Number(base::least(64, table[8320] as usize))
+    Ok((table[8320] as usize).min(64))
 }
 
 // The machine that has a number.
-pub fn machine(table: &[u64], number: u64) -> Counted
+pub fn machine(table: &[u64], number: u64) -> Result<usize, Unlisted>
     ensures { MachineSays table.now number result }
 {
-    if table.len() != 8325 {
-        return Counted::NoTable;
-    }
-    let n = base::least(64, table[8320] as usize);
-    let mut m = 0;
-    while m < n {
+    let n = machines(table)?;
+    for m in 0..n {
         if table[130 * m] % 65536 == number {
-            return Counted::Number(m);
+            return Ok(m);
         }
-        m += 1;
     }
-    Counted::NoMachine
+    Err(Unlisted::NoMachine)
 }
 
 // The number of machine m.
-pub fn number(table: &[u64], m: usize) -> Counted
+pub fn number(table: &[u64], m: usize) -> Result<usize, Unlisted>
     ensures { NumberSays table.now m result }
 {
-    if table.len() != 8325 {
-        return Counted::NoTable;
+    let n = machines(table)?;
+    if n <= m {
+        return Err(Unlisted::NoMachine);
     }
-    if base::least(64, table[8320] as usize) <= m {
-        return Counted::NoMachine;
-    }
-    Counted::Number((table[130 * m] % 65536) as usize)
+    Ok((table[130 * m] % 65536) as usize)
 }
 
 // How many regions machine m has.
-pub fn count(table: &[u64], m: usize) -> Counted
+pub fn count(table: &[u64], m: usize) -> Result<usize, Unlisted>
     ensures { CountSays table.now m result }
 {
-    if table.len() != 8325 {
-        return Counted::NoTable;
+    let n = machines(table)?;
+    if n <= m {
+        return Err(Unlisted::NoMachine);
     }
-    if base::least(64, table[8320] as usize) <= m {
-        return Counted::NoMachine;
-    }
-    Counted::Number(base::least(32, table[130 * m + 1] as usize))
+    Ok((table[130 * m + 1] as usize).min(32))
 }
 
 // Region i of machine m.
-pub fn region(table: &[u64], m: usize, i: usize) -> Found
+pub fn region(table: &[u64], m: usize, i: usize) -> Result<Region, NoRegion>
     ensures { RegionSays table.now m i result }
 {
-    if table.len() != 8325 {
-        return Found::NoTable;
+    let n = count(table, m)?;
+    if n <= i {
+        return Err(NoRegion::NoRegion);
     }
-    if base::least(64, table[8320] as usize) <= m {
-        return Found::NoMachine;
-    }
-    if base::least(32, table[130 * m + 1] as usize) <= i {
-        return Found::NoRegion;
-    }
-    let r = region_words::get(table, 130 * m + (2 + 4 * i));
-    Found::Is(r)
+    Ok(region_words::get(table, 130 * m + (2 + 4 * i)))
 }
 
 // The allocator's region.
-pub fn pool(table: &[u64]) -> Found
+pub fn pool(table: &[u64]) -> Result<Region, NoTable>
     ensures { PoolSays table.now result }
 {
     if table.len() != 8325 {
-        return Found::NoTable;
+        return Err(NoTable);
     }
-    let r = region_words::get(table, 8321);
-    Found::Is(r)
+    Ok(region_words::get(table, 8321))
 }
 
-// Whether machine m is given r, the same in every field.
-pub fn is_given(table: &[u64], m: usize, r: Region) -> Given
+// Which region of machine m is the first that is the same as r in every field, where there is one.
+pub fn is_given(table: &[u64], m: usize, r: Region) -> Result<Option<usize>, Unlisted>
     ensures { GivenSays table.now m r result }
 {
-    if table.len() != 8325 {
-        return Given::NoTable;
-    }
-    if base::least(64, table[8320] as usize) <= m {
-        return Given::NoMachine;
-    }
-    let n = base::least(32, table[130 * m + 1] as usize);
-    let mut i = 0;
-    while i < n {
+    let n = count(table, m)?;
+    for i in 0..n {
         let found = region_words::get(table, 130 * m + (2 + 4 * i));
-        if region_words::same(r, found) {
-            return Given::At(i);
+        if r == found {
+            return Ok(Some(i));
         }
-        i += 1;
     }
-    Given::No
+    Ok(None)
 }

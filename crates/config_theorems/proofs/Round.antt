@@ -2,6 +2,7 @@
 use mathlib.Core.Path.{◌≡◌, sym, ◌∙◌, subst}
 use mathlib.Core.List.{List}
 use Prim.Native.Nat.{ℕ, zero, suc, ◌+◌, ◌-◌, ◌*◌, ◌/◌, ◌%◌, ◌<◌}
+use Rattle.std.specs.Prelude.{Result, Ok, Err}
 use native.Mathlib.Decide.{dec_lt, ℕ_discrete}
 use native.Mathlib.Omega.{arith}
 use lib.ListN.{length, get_or, take}
@@ -10,12 +11,11 @@ use Rattle.address.specs.declared.Region.{Region}
 use Rattle.address.specs.Regions.{Valid}
 use Rattle.region_words.specs.Words.{HasRegion}
 use Rattle.config_model.specs.Config.{Config, Has, HostMeets, GuestMeets, MayShare, ConfigOk, Same}
-use Rattle.config_bytes.specs.Fields.{machines}
 use Rattle.config_view.specs.Table.{Table, number_in, count_in, region_in}
 use Rattle.config_write.proofs.Laws.{number_in_lem, number_out, count_in_lem, count_out, region_in_lem, region_out, counted}
 use Rattle.config.specs.Loading.{LoadSays}
 use Rattle.config.specs.Encoding.{WasEncoded}
-use Rattle.config.specs.declared.Loaded.{Loaded}
+use Rattle.config.specs.declared.NotLoaded.{NotLoaded}
 use Rattle.config_theorems.proofs.Verdicts.{no_reason}
 
 -- ---- configurations that are the same
@@ -150,7 +150,7 @@ module _ {c : Config} {t t' : List ℕ} (x : Table c t) (y : Table c t') where
 -- ---- a table that is encoded and loaded again
 
 -- whatever `load` answers of the bytes that `encode` wrote, it is the table again
-pub load_after_encode : (t o : List ℕ) (n : ℕ) (o' u u' : List ℕ) (r : Loaded) → WasEncoded t o n o' → length u ≡ 8325 → LoadSays (take n o') u u' r → u' ≡ t
-load_after_encode t o n o' u u' (Loaded.Done k) x l y = table_once (table_same x.same u' y.is) x.writable.table
-load_after_encode t o n o' u u' (Loaded.Refused r) x l y = absurd (no_reason (take n o') r x.means (ok_same (same_back x.same) x.writable.ok) y.2)
-load_after_encode t o n o' u u' Loaded.NoTable x l y = absurd (y.1 l)
+pub load_after_encode : (t o : List ℕ) (n : ℕ) (o' u u' : List ℕ) (r : Result ℕ NotLoaded) → WasEncoded t o n o' → length u ≡ 8325 → LoadSays (take n o') u u' r → u' ≡ t
+load_after_encode t o n o' u u' (Ok k) x l y = table_once (table_same x.same u' y.is) x.writable.table
+load_after_encode t o n o' u u' (Err (NotLoaded.Refused r)) x l y = absurd (no_reason (take n o') r x.means (ok_same (same_back x.same) x.writable.ok) y.2)
+load_after_encode t o n o' u u' (Err NotLoaded.NoTable) x l y = absurd (y.1 l)

@@ -12,41 +12,40 @@ use Rattle.base.specs.Search.{First}
 use Rattle.base.specs.Choices.{pick}
 use Rattle.base.proofs.Search.{none_first, first_row_once, first_once}
 use Rattle.address.specs.declared.Fault.{Fault}
-use Rattle.address.specs.Regions.{Valid}
+use Rattle.std.specs.Prelude.{Ok, Err}
+use Rattle.address.specs.Regions.{ValiditySays}
+use Rattle.address.proofs.Laws.{faulty}
 use Rattle.address.proofs.Theorems.{fault_once}
 use Rattle.config_model.specs.Config.{Config}
 use Rattle.config_model.specs.Rules.{Rules, Differ, IsValid, OffPool}
 use Rattle.config_bytes.specs.Fields.{config_of, tail, Readable}
-use Rattle.config_bytes.specs.Reading.{read_of}
-use Rattle.config_bytes.specs.declared.Read.{Read}
+use Rattle.config_bytes.specs.Reading.{Read, read_of}
+use Rattle.config_bytes.specs.declared.Misread.{Misread}
 use Rattle.config_bytes.proofs.Laws.{readable_whole}
 use Rattle.config_pairs.specs.Pairs.{FirstClash}
 use Rattle.config_pairs.specs.declared.Rule.{Rule}
-use Rattle.config_rules.specs.Judging.{ToNumbers, ToValid, ToPoolValid, ToAlone, ToTogether, ToClear, HasFault}
+use Rattle.config_rules.specs.Judging.{ToNumbers, ToValid, ToPoolValid, ToAlone, ToTogether, ToClear}
 use Rattle.config_rules.specs.declared.Reason.{Reason}
-use Rattle.config.specs.Checking.{RefusedSays}
+use Rattle.config.specs.Checking.{RefusedSays, reason_of}
 
 -- ---- faults as numbers
 
 unfoldable fault_number : Fault → ℕ
-fault_number Fault.Nothing = 0
-fault_number Fault.NoPage = 1
-fault_number Fault.GuestStart = 2
-fault_number Fault.HostStart = 3
-fault_number Fault.GuestEnd = 4
-fault_number Fault.HostEnd = 5
+fault_number Fault.NoPage = 0
+fault_number Fault.GuestStart = 1
+fault_number Fault.HostStart = 2
+fault_number Fault.GuestEnd = 3
+fault_number Fault.HostEnd = 4
 
 unfoldable pub fault_of : ℕ → Fault
-fault_of zero = Fault.Nothing
-fault_of (suc zero) = Fault.NoPage
-fault_of (suc (suc zero)) = Fault.GuestStart
-fault_of (suc (suc (suc zero))) = Fault.HostStart
-fault_of (suc (suc (suc (suc zero)))) = Fault.GuestEnd
-fault_of (suc (suc (suc (suc (suc n))))) = Fault.HostEnd
+fault_of zero = Fault.NoPage
+fault_of (suc zero) = Fault.GuestStart
+fault_of (suc (suc zero)) = Fault.HostStart
+fault_of (suc (suc (suc zero))) = Fault.GuestEnd
+fault_of (suc (suc (suc (suc n)))) = Fault.HostEnd
 
 fault_back : (f : Fault) → fault_of (fault_number f) ≡ f
 unfolding fault_number fault_of
-fault_back Fault.Nothing = refl
 fault_back Fault.NoPage = refl
 fault_back Fault.GuestStart = refl
 fault_back Fault.HostStart = refl
@@ -90,24 +89,16 @@ down_by s (suc d) k x = let e : suc d + k ≡ suc (d + k) = omega arith in down_
 pub down_to : (s : List ℕ) (j k : ℕ) → j ≤ k → To s k → To s j
 down_to s j k l x = let e : k ≡ (k - j) + j = omega arith in down_by s (k - j) j (rw e at x)
 
--- what was read, from its number and two more
-unfoldable pub read_from : ℕ → ℕ → ℕ → Read
-read_from zero a b = Read.TooShort a
-read_from (suc zero) a b = Read.TooManyMachines
-read_from (suc (suc zero)) a b = Read.TooManyRegions a
-read_from (suc (suc (suc n))) a b = Read.UnknownKind a b
-
--- the reason of what was read
-unfoldable pub of_read : Read → Reason
-of_read Read.Whole = Reason.TooManyMachines
-of_read (Read.TooShort at) = Reason.TooShort at
-of_read Read.TooManyMachines = Reason.TooManyMachines
-of_read (Read.TooManyRegions m) = Reason.TooManyRegions m
-of_read (Read.UnknownKind m i) = Reason.UnknownKind m i
+-- what is wrong with a field, from its number and two more
+unfoldable pub read_from : ℕ → ℕ → ℕ → Misread
+read_from zero a b = Misread.TooShort a
+read_from (suc zero) a b = Misread.TooManyMachines
+read_from (suc (suc zero)) a b = Misread.TooManyRegions a
+read_from (suc (suc (suc n))) a b = Misread.UnknownKind a b
 
 -- the reason of a stage and four numbers
 unfoldable pub reason_from : ℕ → ℕ → ℕ → ℕ → ℕ → Reason
-reason_from zero a b d e = of_read (read_from a b d)
+reason_from zero a b d e = reason_of (read_from a b d)
 reason_from (suc zero) a b d e = Reason.SameNumber a b
 reason_from (suc (suc zero)) a b d e = Reason.NotValid a b (fault_of d)
 reason_from (suc (suc (suc zero))) a b d e = Reason.PoolNotValid (fault_of a)
@@ -119,12 +110,12 @@ reason_from (suc (suc (suc (suc (suc (suc (suc (suc n)))))))) a b d e = Reason.L
 
 -- a stage fails, at the place that the numbers tell
 abbrev pub Fails : List ℕ → ℕ → ℕ → ℕ → ℕ → ℕ → Type 0
-Fails s zero a b d e = read_of s ≡ read_from a b d
+Fails s zero a b d e = read_of s ≡ Err (read_from a b d)
 Fails s (suc zero) a b d e = First (Differ (config_of s)) (λ k. (config_of s).machines) (config_of s).machines a b
 Fails s (suc (suc zero)) a b d e =
     First (IsValid (config_of s)) (config_of s).count (config_of s).machines a b
-    × HasFault ((config_of s).region a b).guest ((config_of s).region a b).host ((config_of s).region a b).pages (fault_of d)
-Fails s (suc (suc (suc zero))) a b d e = HasFault 0 (config_of s).pool.host (config_of s).pool.pages (fault_of a)
+    × ValiditySays ((config_of s).region a b).guest ((config_of s).region a b).host ((config_of s).region a b).pages (Err (fault_of d))
+Fails s (suc (suc (suc zero))) a b d e = ValiditySays 0 (config_of s).pool.host (config_of s).pool.pages (Err (fault_of a))
 Fails s (suc (suc (suc (suc zero)))) a b d e = FirstClash Rule.Alone (config_of s) a b d e
 Fails s (suc (suc (suc (suc (suc zero))))) a b d e = FirstClash Rule.Together (config_of s) a b d e
 Fails s (suc (suc (suc (suc (suc (suc zero)))))) a b d e = FirstClash Rule.Clear (config_of s) a b d e
@@ -144,7 +135,7 @@ pub record Staged (s : List ℕ) (r : Reason) : Type 0 where
   pub is : reason_from stage a b d e ≡ r
 
 pub staged : (s : List ℕ) (r : Reason) → RefusedSays s r → Staged s r
-unfolding reason_from of_read read_from fault_number fault_of
+unfolding reason_from read_from fault_number fault_of
 staged s (Reason.TooShort at) x = record { stage = 0; last = omega arith; a = 0; b = at; d = 0; e = 0; holds = tt; fails = x; is = refl }
 staged s Reason.TooManyMachines x = record { stage = 0; last = omega arith; a = 1; b = 0; d = 0; e = 0; holds = tt; fails = x; is = refl }
 staged s (Reason.TooManyRegions m) x = record { stage = 0; last = omega arith; a = 2; b = m; d = 0; e = 0; holds = tt; fails = x; is = refl }
@@ -159,7 +150,7 @@ staged s (Reason.NotValid m i f) x =
       d = fault_number f;
       e = 0;
       holds = (x.0, x.1.0);
-      fails = (x.1.1, subst (λ (y : Fault). HasFault ((config_of s).region m i).guest ((config_of s).region m i).host ((config_of s).region m i).pages y) (sym (fault_back f)) x.1.2);
+      fails = (x.1.1, subst (λ (y : Fault). ValiditySays ((config_of s).region m i).guest ((config_of s).region m i).host ((config_of s).region m i).pages (Err y)) (sym (fault_back f)) x.1.2);
       is = ap (λ (y : Fault). Reason.NotValid m i y) (fault_back f);
     }
 staged s (Reason.PoolNotValid f) x =
@@ -171,7 +162,7 @@ staged s (Reason.PoolNotValid f) x =
       d = 0;
       e = 0;
       holds = (x.0, x.1.0);
-      fails = subst (λ (y : Fault). HasFault 0 (config_of s).pool.host (config_of s).pool.pages y) (sym (fault_back f)) x.1.1;
+      fails = subst (λ (y : Fault). ValiditySays 0 (config_of s).pool.host (config_of s).pool.pages (Err y)) (sym (fault_back f)) x.1.1;
       is = ap Reason.PoolNotValid (fault_back f);
     }
 staged s (Reason.HostShared m i m' i') x = record { stage = 4; last = omega arith; a = m; b = i; d = m'; e = i'; holds = (x.0, x.1.0); fails = x.1.1; is = refl }
@@ -183,21 +174,14 @@ staged s (Reason.PoolShared m i) x = record { stage = 7; last = omega arith; a =
 staged s (Reason.LeftOver at) x = record { stage = 8; last = omega arith; a = at; b = 0; d = 0; e = 0; holds = (x.readable, x.rules); fails = (x.end, x.more); is = refl }
 
 -- a stage that fails does not hold
-whole_not : (a b d : ℕ) → Read.Whole ≡ read_from a b d → ⊥
-unfolding read_from
-whole_not zero b d q = let z : ◌≡◌ {A = ℕ} 0 1 = cc in omega arith
-whole_not (suc zero) b d q = let z : ◌≡◌ {A = ℕ} 0 1 = cc in omega arith
-whole_not (suc (suc zero)) b d q = let z : ◌≡◌ {A = ℕ} 0 1 = cc in omega arith
-whole_not (suc (suc (suc n))) b d q = let z : ◌≡◌ {A = ℕ} 0 1 = cc in omega arith
-
-has_fault_not : {g h p : ℕ} {f : Fault} → HasFault g h p f → Valid g h p → ⊥
-has_fault_not {g} {h} {p} {f} x v = x.some (fault_once g h p f Fault.Nothing x.is v)
+whole_not : (e : Misread) → ◌≡◌ {A = Read} (Ok tt) (Err e) → ⊥
+whole_not e q = cc
 
 pub fails_not : (s : List ℕ) (k a b d e : ℕ) → k ≤ 8 → Fails s k a b d e → To s (suc k) → ⊥
-fails_not s zero a b d e l x y = whole_not a b d (sym (readable_whole s y) ∙ x)
+fails_not s zero a b d e l x y = whole_not (read_from a b d) (sym (readable_whole s y) ∙ x)
 fails_not s (suc zero) a b d e l x y = none_first x y.1
 fails_not s (suc (suc zero)) a b d e l x y = none_first x.0 y.1.1
-fails_not s (suc (suc (suc zero))) a b d e l x y = has_fault_not x y.1.1
+fails_not s (suc (suc (suc zero))) a b d e l x y = faulty _ x y.1.1
 fails_not s (suc (suc (suc (suc zero)))) a b d e l x y = none_first x.first y.1.1
 fails_not s (suc (suc (suc (suc (suc zero))))) a b d e l x y = none_first x.first y.1.1
 fails_not s (suc (suc (suc (suc (suc (suc zero)))))) a b d e l x y = none_first x.first y.1.1
@@ -221,15 +205,15 @@ valid_once : (s : List ℕ) (a b d e a' b' d' e' : ℕ) → Fails s 2 a b d e �
 valid_once s a b d e a' b' d' e' x y =
     let p = first_row_once x.0 y.0 in
     let q = first_once x.0 y.0 in
-    let z : HasFault ((config_of s).region a b).guest ((config_of s).region a b).host ((config_of s).region a b).pages (fault_of d') = rw (p, q) y.1 in
-    let r = fault_once _ _ _ (fault_of d) (fault_of d') x.1.is z.is in cc
+    let z : ValiditySays ((config_of s).region a b).guest ((config_of s).region a b).host ((config_of s).region a b).pages (Err (fault_of d')) = rw (p, q) y.1 in
+    let r = fault_once _ _ _ (Err (fault_of d)) (Err (fault_of d')) x.1 z in cc
 
 once : (s : List ℕ) (k a b d e a' b' d' e' : ℕ) → Fails s k a b d e → Fails s k a' b' d' e' → reason_from k a b d e ≡ reason_from k a' b' d' e'
 unfolding reason_from
-once s zero a b d e a' b' d' e' x y = ap of_read (sym x ∙ y)
+once s zero a b d e a' b' d' e' x y = let z : ◌≡◌ {A = Read} (Err (read_from a b d)) (Err (read_from a' b' d')) = sym x ∙ y in let p : read_from a b d ≡ read_from a' b' d' = cc in ap reason_of p
 once s (suc zero) a b d e a' b' d' e' x y = let p = first_row_once x y in let q = first_once x y in cc
 once s (suc (suc zero)) a b d e a' b' d' e' x y = valid_once s a b d e a' b' d' e' x y
-once s (suc (suc (suc zero))) a b d e a' b' d' e' x y = ap Reason.PoolNotValid (fault_once _ _ _ (fault_of a) (fault_of a') x.is y.is)
+once s (suc (suc (suc zero))) a b d e a' b' d' e' x y = let r = fault_once 0 (config_of s).pool.host (config_of s).pool.pages (Err (fault_of a)) (Err (fault_of a')) x y in cc
 once s (suc (suc (suc (suc zero)))) a b d e a' b' d' e' x y = same_four 4 (clash_once Rule.Alone (config_of s) a b d e a' b' d' e' x y)
 once s (suc (suc (suc (suc (suc zero))))) a b d e a' b' d' e' x y = same_four 5 (clash_once Rule.Together (config_of s) a b d e a' b' d' e' x y)
 once s (suc (suc (suc (suc (suc (suc zero)))))) a b d e a' b' d' e' x y = same_four 6 (clash_once Rule.Clear (config_of s) a b d e a' b' d' e' x y)

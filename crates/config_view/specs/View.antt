@@ -1,19 +1,21 @@
--- A configuration in bytes s, where there are any, and otherwise in the words t of a table. Assumes nothing.
-use Rattle.std.specs.Prelude.{◌≡◌, List, ℕ, ◌*◌, ◌<◌, length, eqb}
-use Rattle.base.specs.Choices.{pick}
+-- A configuration in bytes, or in the words of a table. Assumes nothing.
+use Rattle.std.specs.Prelude.{◌≡◌, ℕ, ◌*◌, length}
 use Rattle.config_model.specs.Config.{Config}
 use Rattle.config_bytes.specs.Fields.{config_of, offset, Readable}
 use Rattle.config_view.specs.Table.{table_config}
+use Rattle.config_view.specs.declared.View.{View}
 
 -- the configuration
-unfoldable pub viewed : List ℕ → List ℕ → Config
-viewed s t = pick (eqb (length s) 0) (table_config t) (config_of s)
+abbrev pub viewed : View → Config
+viewed (View.Bytes s) = config_of s.now
+viewed (View.Table t) = table_config t.now
 
 -- where the fields of machine m start, and behind the last machine where those of the allocator's region do, in bytes
-unfoldable pub place : List ℕ → List ℕ → ℕ → ℕ
-place s t m = pick (eqb (length s) 0) (130 * m) (offset s m)
+abbrev pub place : View → ℕ → ℕ
+place (View.Bytes s) m = offset s.now m
+place (View.Table t) m = 130 * m
 
 -- there is a configuration to be read: the bytes are readable, or the table has its length
-pub record InView (s t : List ℕ) : Type 0 where
-  pub bytes : 0 < length s → Readable s
-  pub table : length s ≡ 0 → length t ≡ 8325
+abbrev pub InView : View → Type 0
+InView (View.Bytes s) = Readable s.now
+InView (View.Table t) = length t.now ≡ 8325

@@ -1,12 +1,17 @@
 -- Words and frames that are wiped. Assumes nothing.
-use mathlib.Core.Path.{◌≡◌, refl, ◌∙◌}
+use mathlib.Core.Path.{◌≡◌, refl, sym, ◌∙◌}
+use mathlib.Core.Bool.{Bool, true, false}
 use mathlib.Core.List.{List}
-use Prim.Native.Nat.{ℕ, ◌+◌, ◌-◌, ◌*◌, ◌≤◌, ◌<◌}
+use Prim.Native.Nat.{ℕ, ◌+◌, ◌*◌, ◌≤◌, ◌<◌}
 use native.Mathlib.Decide.{ℕ_discrete}
 use native.Mathlib.Omega.{arith}
-use lib.ListN.{length, get_or}
+use lib.ListN.{length}
+use Rattle.std.specs.Prelude.{◌≢◌}
+use Rattle.std.specs.Bool.{MatchBool}
+use Rattle.std.specs.List.{AllWithin, HoldsAt}
+use Rattle.base.specs.Says.{Says}
+use Rattle.base.proofs.Positions.{part, part_long, word_at}
 use Rattle.base.specs.Ranges.{Emptied}
-use Rattle.base.specs.Search.{Stops}
 use Rattle.owners.specs.States.{State, State.Owned, state}
 use Rattle.owner_passes.specs.Passes.{owns}
 use Rattle.owner_passes.proofs.Counting.{owns_none, owns_one, owns_small}
@@ -59,15 +64,18 @@ wipe_done t o w c k w' l x = record { long = x.long; mine = λ m h s. x.mine m (
 
 -- ---- what is all 0
 
--- the words of a frame, all passed
-pub all_zero : (w : List ℕ) (k : ℕ) → Stops (λ j. get_or w j 0 ≡ 0) (512 * k) (512 * k + 512) (512 * k + 512) → Zero w k
-all_zero w k s i h = s.before (512 * k + i) (omega arith) (omega arith)
+-- the words of frame k, as a list
+abbrev pub frame : List ℕ → ℕ → ℕ → List ℕ
+frame w k n = part w (512 * k) n
 
--- a word that is not 0
-pub some_word : (w : List ℕ) (k r : ℕ) → Stops (λ j. get_or w j 0 ≡ 0) (512 * k) (512 * k + 512) r → (r ≡ 512 * k + 512 → ⊥) → Zero w k → ⊥
-some_word w k r s n z =
-    let lo = s.low in
-    let hi = s.high in
-    let e : 512 * k + (r - 512 * k) ≡ r = omega arith in
-    let y : get_or w r 0 ≡ 0 = rw e at (z (r - 512 * k) (omega (arith, n))) in
-    s.fails (omega (arith, n)) y
+frame_long : (w : List ℕ) (k n : ℕ) → n ≡ 512 → k < frames_in w → length (frame w k n) ≡ n
+frame_long w k n e l = part_long w (512 * k) n (omega arith)
+
+-- whether all of them are 0, where that is asked of a frame of which F holds
+pub zero_said : {F : Type 0} (w : List ℕ) (k n : ℕ) (r : Bool) → F → n ≡ 512 → k < frames_in w
+    → MatchBool r (AllWithin (λ x. x ≡ 0) (frame w k n) 0 (length (frame w k n))) ((j : ℕ) × (j < length (frame w k n)) × HoldsAt (λ x. x ≢ 0) (frame w k n) j)
+    → Says r (F → Zero w k)
+zero_said w k n true f e l h = λ _ i b. sym (word_at w (512 * k) n i 0 (omega arith)) ∙ h i 0 (omega arith) (let q = frame_long w k n e l in omega arith)
+zero_said w k n false f e l h =
+    let q : h.0 < 512 = let g = frame_long w k n e l in let b = h.1 in omega arith in
+    λ z. h.2 0 (word_at w (512 * k) n h.0 0 (omega arith) ∙ z f h.0 q)

@@ -13,14 +13,7 @@ ghost use Rattle.contents.specs.Contents.{Backed, frames_in, Zero, Wiped, WipedO
 pub fn is_backed(owners: &[u8], words: &[u64]) -> bool
     ensures { Says result (Backed owners.now words.now) }
 {
-    if words.len() % 512 != 0 {
-        return false;
-    }
-    if words.len() / 512 <= owners.len() {
-        true
-    } else {
-        false
-    }
+    words.len() % 512 == 0 && words.len() / 512 <= owners.len()
 }
 
 // Makes every word of the frames from a up to b 0.
@@ -36,12 +29,9 @@ pub fn wipe_owned(tree: &[u16], owners: &[u8], words: &mut [u64], c: u8)
     requires { Matched tree.now owners.now × Backed owners.now words.old × (c < 64) }
     ensures { WipedOf tree.now owners.now words.old c words.new }
 {
-    let n = words.len() / 512;
-    let mut k: usize = 0;
-    while k < n {
+    for k in 0..words.len() / 512 {
         let mine = owner_passes::one_if_owned(tree, owners, k, c);
         wipe(words, k, k + mine);
-        k += 1;
     }
 }
 
@@ -50,14 +40,12 @@ pub fn others_until(tree: &[u16], owners: &[u8], n: usize, c: u8) -> usize
     requires { Matched tree.now owners.now × (n ≤ cap tree.now) × (c < 64) }
     ensures { Stops (λ k. state tree.now owners.now k ≡ Owned c → ⊥) n (cap tree.now) result }
 {
-    let mut k = n;
-    while k < owners.len() {
+    for k in n..owners.len() {
         if owner_passes::one_if_owned(tree, owners, k, c) == 1 {
             return k;
         }
-        k += 1;
     }
-    k
+    owners.len()
 }
 
 // The first frame from n on that is not reserved, or the number of frames.
@@ -66,32 +54,12 @@ pub fn reserved_until(tree: &[u16], owners: &[u8], n: usize) -> usize
     ensures { Stops (λ k. state tree.now owners.now k ≡ Reserved) n (cap tree.now) result }
 {
     let w = tree.len();
-    let mut k = n;
-    while k < owners.len() {
-        if bitmap_tree::read(tree, w + k) == 1 {
+    for k in n..owners.len() {
+        if bitmap_tree::read(tree, w + k) == 1 || owners[k] < 64 {
             return k;
         }
-        if owners[k] < 64 {
-            return k;
-        }
-        k += 1;
     }
-    k
-}
-
-// The first word from p up to q that is not 0, or q.
-fn zero_until(words: &[u64], p: usize, q: usize) -> usize
-    requires { (p ≤ q) × (q ≤ length words.now) }
-    ensures { Stops (λ j. get_or words.now j 0 ≡ 0) p q result }
-{
-    let mut j = p;
-    while j < q {
-        if words[j] != 0 {
-            return j;
-        }
-        j += 1;
-    }
-    j
+    owners.len()
 }
 
 // Whether frame k is taken, or all its words are 0.
@@ -99,15 +67,8 @@ fn is_clean(tree: &[u16], words: &[u64], k: usize) -> bool
     requires { (k < frames_in words.now) × (k < cap tree.now) × (0 < length tree.now) }
     ensures { Says result (free tree.now k ≡ 1 → Zero words.now k) }
 {
-    if bitmap_tree::read(tree, tree.len() + k) == 0 {
-        return true;
-    }
-    let end = 512 * k + 512;
-    if zero_until(words, 512 * k, end) == end {
-        true
-    } else {
-        false
-    }
+    bitmap_tree::read(tree, tree.len() + k) == 0
+        || words[512 * k..512 * k + 512].iter().all(|x| *x == 0)
 }
 
 // The first frame that is free and has a word that is not 0, or the number of frames with contents.
@@ -116,12 +77,10 @@ pub fn clean_until(tree: &[u16], owners: &[u8], words: &[u64]) -> usize
     ensures { Stops (λ k. free tree.now k ≡ 1 → Zero words.now k) 0 (frames_in words.now) result }
 {
     let n = words.len() / 512;
-    let mut k: usize = 0;
-    while k < n {
+    for k in 0..n {
         if !is_clean(tree, words, k) {
             return k;
         }
-        k += 1;
     }
-    k
+    n
 }

@@ -24,7 +24,8 @@ use Rattle.machine.proofs.Whole.{GivenBack, wholes}
 use Rattle.call_bytes.specs.Framing.{Item, Framed}
 use Rattle.hv_state.specs.Memory.{Mem, config_in, plan_of, decode, Sound}
 use Rattle.hv_state.specs.Serving.{CallServed, Undone}
-use Rattle.hv_run.specs.declared.Ran.{Ran}
+use Rattle.std.specs.Prelude.{Result, Ok}
+use Rattle.hv_run.specs.declared.NotRun.{NotRun}
 use Rattle.hv_run.specs.Sequence.{RanSays}
 use Rattle.hv_theorems.proofs.Theorems as theorems
 use Rattle.hv_theorems.proofs.Theorems.{NeverStuck}
@@ -99,12 +100,12 @@ pub record Meant (s : List ℕ) (b d : Mem) : Type 0 where
   pub are : AreEvents s items events
   pub state : decode d ≡ run (plan_of b) (decode b) events
 
-pub run_means : (c s lentReplies lentAnswers spareZones spareTree spareOwners : List ℕ) (b d : Mem) (replies answers : List ℕ) (n : ℕ) → Lives c b → RanSays s lentReplies lentAnswers spareZones spareTree spareOwners b d replies answers (Ran.Done n) → Meant s b d
+pub run_means : (c s lentReplies lentAnswers spareZones spareTree spareOwners : List ℕ) (b d : Mem) (replies answers : List ℕ) (n : ℕ) → Lives c b → RanSays s lentReplies lentAnswers spareZones spareTree spareOwners b d replies answers (Ok n) → Meant s b d
 run_means c s lentReplies lentAnswers spareZones spareTree spareOwners b d replies answers n l h =
     let t = h.2.transcript in
     let x = happened s lentReplies lentAnswers replies answers 0 0 t.items b d t.performed in
     record { items = t.items; framed = t.framed; events = x.events; are = x.are; state = (theorems.reached b x.events d x.becomes (sound c b l)).state }
 
 -- From the contract of `run` to `isolated` in one step: whatever the bytes s are, and whatever `run` answers.
-pub isolated_after_run : (c s lentReplies lentAnswers spareZones spareTree spareOwners : List ℕ) (b d : Mem) (replies answers : List ℕ) (r : Ran) → Lives c b → RanSays s lentReplies lentAnswers spareZones spareTree spareOwners b d replies answers r → (m m' page : ℕ) (x y : Way) → (m ≡ m' → ⊥) → Reach (plan_of d) (decode d) m page x → Reach (plan_of d) (decode d) m' page y → SharedBy m x m' y
+pub isolated_after_run : (c s lentReplies lentAnswers spareZones spareTree spareOwners : List ℕ) (b d : Mem) (replies answers : List ℕ) (r : Result ℕ NotRun) → Lives c b → RanSays s lentReplies lentAnswers spareZones spareTree spareOwners b d replies answers r → (m m' page : ℕ) (x y : Way) → (m ≡ m' → ⊥) → Reach (plan_of d) (decode d) m page x → Reach (plan_of d) (decode d) m' page y → SharedBy m x m' y
 isolated_after_run c s lentReplies lentAnswers spareZones spareTree spareOwners b d replies answers r l h = isolated c d (lives_ran c s lentReplies lentAnswers spareZones spareTree spareOwners b d replies answers r l h)

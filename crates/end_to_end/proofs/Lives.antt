@@ -3,6 +3,7 @@ use mathlib.Core.Path.{◌≡◌, sym, subst}
 use mathlib.Core.Bool.{true}
 use mathlib.Core.List.{List, [], ◌∷◌, ◌++◌}
 use Prim.Native.Nat.{ℕ, ◌+◌, ◌*◌, ◌/◌}
+use Rattle.std.proofs.Common.{Ok}
 use Rattle.owners.specs.States.{State.Owned}
 use Rattle.machine.specs.declared.Request.{Request}
 use Rattle.machine.specs.declared.Answer.{Answer}
@@ -14,12 +15,12 @@ use Rattle.hv_state.specs.Serving.{Served, CallServed}
 use Rattle.hv_state.proofs.Serving.{one_served}
 use Rattle.hv_calls.specs.declared.Replied.{Replied}
 use Rattle.hv_calls.specs.Calling.{IsCall, ReplySays}
-use Rattle.hv_serve.specs.declared.Called.{Called}
+use Rattle.std.specs.Prelude.{Result, Ok, Err}
+use Rattle.hv_serve.specs.declared.NotServed.{NotServed}
 use Rattle.hv_serve.specs.Called.{CalledSays}
 use Rattle.run_items.specs.Running.{Performed, Performed.Over, Performed.Next}
-use Rattle.hv_run.specs.declared.Ran.{Ran}
+use Rattle.hv_run.specs.declared.NotRun.{NotRun}
 use Rattle.hv_run.specs.Sequence.{RanSays}
-use Rattle.hv_start.specs.declared.Started.{Started}
 use Rattle.hv_start.specs.Starting.{StartSays}
 use Rattle.hv_theorems.specs.Happening.{Becomes, wrote}
 use Rattle.end_to_end.specs.Living.{AreEvents, Lives}
@@ -44,7 +45,7 @@ stays {s} l e = subst (Lives s) (sym e) l
 -- ---- the functions
 
 -- `start` gives life.
-pub lives_started : (s : List ℕ) (b d : Mem) → StartSays s b d Started.Done → Lives s d
+pub lives_started : (s : List ℕ) (b d : Mem) → StartSays s b d (Ok tt) → Lives s d
 lives_started s b d w = record { lent = b; begun = d; started = w; events = []; becomes = Becomes.Stays d }
 
 -- what one call makes
@@ -59,10 +60,10 @@ pub lives_requested : (c : List ℕ) (b : Mem) (number : ℕ) (q : Request) (d :
 lives_requested c b number q d a l v = one_call number (One q) (Answered a) l (one_served b number q d a v)
 
 -- `serve` keeps it, whatever it replies.
-pub lives_served : (c s answers spareZones spareTree spareOwners : List ℕ) (b : Mem) (number : ℕ) (d : Mem) (answers' : List ℕ) (r : Called) → Lives c b → CalledSays s answers spareZones spareTree spareOwners b number d answers' r → Lives c d
-lives_served c s answers spareZones spareTree spareOwners b number d answers' (Called.Replied said) l h = replied s 0 _ number 0 answers' said l h.2
-lives_served c s answers spareZones spareTree spareOwners b number d answers' Called.FewWords l h = stays l h.1
-lives_served c s answers spareZones spareTree spareOwners b number d answers' Called.Spare l h = stays l h.2
+pub lives_served : (c s answers spareZones spareTree spareOwners : List ℕ) (b : Mem) (number : ℕ) (d : Mem) (answers' : List ℕ) (r : Result Replied NotServed) → Lives c b → CalledSays s answers spareZones spareTree spareOwners b number d answers' r → Lives c d
+lives_served c s answers spareZones spareTree spareOwners b number d answers' (Ok said) l h = replied s 0 _ number 0 answers' said l h.2
+lives_served c s answers spareZones spareTree spareOwners b number d answers' (Err NotServed.FewWords) l h = stays l h.1
+lives_served c s answers spareZones spareTree spareOwners b number d answers' (Err NotServed.Spare) l h = stays l h.2
 
 -- what happened by a sequence of calls
 pub record Happened (s : List ℕ) (items : List Item) (b d : Mem) : Type 0 where
@@ -84,14 +85,14 @@ happened s replies₀ answers₀ replies answers r at items b d (Next {items = r
     go (Replied.Malformed i) h t = record { events = t.events; are = AreEvents.Malformed item i h.0 t.are; becomes = subst (λ (x : Mem). Becomes x t.events d) h.1 t.becomes }
 
 -- `run` keeps it, whatever the bytes are.
-pub lives_ran : (c s replies answers spareZones spareTree spareOwners : List ℕ) (b d : Mem) (replies' answers' : List ℕ) (r : Ran) → Lives c b → RanSays s replies answers spareZones spareTree spareOwners b d replies' answers' r → Lives c d
-lives_ran c s replies answers spareZones spareTree spareOwners b d replies' answers' (Ran.Done n) l h =
+pub lives_ran : (c s replies answers spareZones spareTree spareOwners : List ℕ) (b d : Mem) (replies' answers' : List ℕ) (r : Result ℕ NotRun) → Lives c b → RanSays s replies answers spareZones spareTree spareOwners b d replies' answers' r → Lives c d
+lives_ran c s replies answers spareZones spareTree spareOwners b d replies' answers' (Ok n) l h =
     let t = h.2.transcript in
     let x = happened s replies answers replies' answers' 0 0 t.items b d t.performed in
     goes_on x.events l x.becomes
-lives_ran c s replies answers spareZones spareTree spareOwners b d replies' answers' (Ran.Broken q) l h = stays l h.3
-lives_ran c s replies answers spareZones spareTree spareOwners b d replies' answers' Ran.FewWords l h = stays l h.1
-lives_ran c s replies answers spareZones spareTree spareOwners b d replies' answers' Ran.Spare l h = stays l h.2
+lives_ran c s replies answers spareZones spareTree spareOwners b d replies' answers' (Err (NotRun.Broken q)) l h = stays l h.3
+lives_ran c s replies answers spareZones spareTree spareOwners b d replies' answers' (Err NotRun.FewWords) l h = stays l h.1
+lives_ran c s replies answers spareZones spareTree spareOwners b d replies' answers' (Err NotRun.Spare) l h = stays l h.2
 
 -- And so does what a machine that is there writes into a frame that it owns.
 pub lives_written : (c : List ℕ) (b : Mem) (m j v : ℕ) → Lives c b → (decode b).present m ≡ true → (decode b).frame (j / 512) ≡ Owned m → Lives c (wrote b j v)

@@ -3,13 +3,12 @@ use mathlib.Core.Path.{◌≡◌, refl, sym, ◌∙◌}
 use mathlib.Core.List.{List}
 use Prim.Native.Nat.{ℕ, ◌+◌, ◌≤◌, ◌<◌}
 use native.Mathlib.Omega.{arith}
-use Rattle.bitmap_tree.specs.Tree.{free}
 use Rattle.owners.specs.States.{State.Free, State.Owned, state}
 use Rattle.owners.specs.Writes.{Assigned}
 use Rattle.owners.proofs.States.{not_reserved}
 use Rattle.claims.specs.Returns.{Mine, RunMine}
 use Rattle.global_allocator.specs.Changes as shared
-use Rattle.global_allocator.proofs.Writes.{freed, run-freed}
+use Rattle.global_allocator.proofs.Writes.{freed, run_freed}
 use Rattle.contents.specs.Contents.{frames_in, Backed, Wiped, Clean}
 use Rattle.frames.specs.Frames.{Gave, GaveRun, TookBack, TookRunBack}
 use Rattle.contents.proofs.Cleaning.{clean_after, client_not_free}
@@ -46,8 +45,8 @@ module _ (base : ℕ) (t o w : List ℕ) (c addr : ℕ) (t' o' w' : List ℕ) (b
   }
 
   pub took_run_back : (count k : ℕ) → RunMine base t o c addr count k → Assigned t o k (k + count) 1 255 t' o' → Wiped w k (k + count) w' → k + count ≤ frames_in w → TookRunBack base t o w c addr count t' o' w'
-  unfolding run-freed
-  took_run_back count k m a x l = let g = run-freed base t o c t' o' addr count k m a in record {
+  unfolding run_freed
+  took_run_back count k m a x l = let g = run_freed base t o c t' o' addr count k m a in record {
     backed = b;
     took = g;
     inside = l;

@@ -8,60 +8,61 @@
 // every operation keeps them so; `Corrupt` is answered only where they are not.
 #![tactic(auto)]
 
+ghost use Rattle.std.specs.Prelude.{◌≡◌};
+ghost use Rattle.frames.specs.declared.NotGiven.{NotGiven};
+ghost use Rattle.frames.specs.declared.NotReturned.{NotReturned};
 ghost use Rattle.frames.specs.Frames.{AllocSays, RunSays, DeallocSays, DeallocRunSays};
 
-use claims::{MayFree, MayFreeRun, NoFrame, NoRun, NotFreed, RunNotFreed};
-use global_allocator::{Allocated, RunAllocated};
+use claims::{NoFrame, NoRun, NotFreed, RunNotFreed};
 
-// The address of the frame that was given.
-#[derive(Drop)]
-pub enum Given {
-    At(usize),
-    // The contents are not those of whole frames, or of more than there are. Each enum below that has
-    // this variant means the same by it.
+// Why no frame, or no run of frames, is given; E is why the shared allocator gives none.
+#[derive(Clone, Copy, Debug, PartialEq, Eq)]
+pub enum NotGiven<E> {
+    // The contents are not those of whole frames, or of more than there are.
     Unbacked,
-    No(NoFrame),
+    No(E),
 }
 
-// The address of the first frame of the run that was given.
-#[derive(Drop)]
-pub enum RunGiven {
-    At(usize),
-    Unbacked,
-    No(NoRun),
+impl<E> From<E> for NotGiven<E> {
+    ghost from_gives = { λ why e. e ≡ NotGiven.No why };
+
+    fn from(why: E) -> NotGiven<E> {
+        NotGiven::No(why)
+    }
 }
 
-// What became of a frame that was to be given back.
-#[derive(Drop)]
-pub enum Returned {
-    Done,
+// Why a frame, or a run of frames, can't be given back; E is why the shared allocator takes none.
+#[derive(Clone, Copy, Debug, PartialEq, Eq)]
+pub enum NotReturned<E> {
+    // As in NotGiven.
     Unbacked,
-    // The frame is the client's but has no contents.
+    // It is the client's, but the frame, or the last one of the run, has no contents.
     Corrupt,
-    No(NotFreed),
+    No(E),
 }
 
-// What became of a run of frames that was to be given back.
-#[derive(Drop)]
-pub enum RunReturned {
-    Done,
-    Unbacked,
-    // The run is the client's, but its last frame has no contents.
-    Corrupt,
-    No(RunNotFreed),
+impl<E> From<E> for NotReturned<E> {
+    ghost from_gives = { λ why e. e ≡ NotReturned.No why };
+
+    fn from(why: E) -> NotReturned<E> {
+        NotReturned::No(why)
+    }
 }
 
 // Gives the client c the lowest free frame, which is empty.
-pub fn alloc(tree: &mut [u16], owners: &mut [u8], words: &[u64], base: usize, c: u8) -> Given
+pub fn alloc(
+    tree: &mut [u16],
+    owners: &mut [u8],
+    words: &[u64],
+    base: usize,
+    c: u8,
+) -> Result<usize, NotGiven<NoFrame>>
     ensures { AllocSays base tree.old owners.old words.now c tree.new owners.new result }
 {
     if !contents::is_backed(owners, words) {
-        return Given::Unbacked;
+        return Err(NotGiven::Unbacked);
     }
-    match global_allocator::alloc(tree, owners, base, c) {
-        Allocated::At(addr) => Given::At(addr),
-        Allocated::No(why) => Given::No(why),
-    }
+    Ok(global_allocator::alloc(tree, owners, base, c)?)
 }
 
 // Gives the client c the lowest run of `size` free frames whose first is a multiple of 2 to the power of
@@ -74,16 +75,13 @@ pub fn alloc_contiguous(
     c: u8,
     size: usize,
     align_log2: usize,
-) -> RunGiven
+) -> Result<usize, NotGiven<NoRun>>
     ensures { RunSays base tree.old owners.old words.now c size align_log2 tree.new owners.new result }
 {
     if !contents::is_backed(owners, words) {
-        return RunGiven::Unbacked;
+        return Err(NotGiven::Unbacked);
     }
-    match global_allocator::alloc_contiguous(tree, owners, base, c, size, align_log2) {
-        RunAllocated::At(addr) => RunGiven::At(addr),
-        RunAllocated::No(why) => RunGiven::No(why),
-    }
+    Ok(global_allocator::alloc_contiguous(tree, owners, base, c, size, align_log2)?)
 }
 
 // The client c gives back the frame at an address, which is cleared first.
@@ -94,23 +92,19 @@ pub fn dealloc(
     base: usize,
     c: u8,
     addr: usize,
-) -> Returned
+) -> Result<(), NotReturned<NotFreed>>
     ensures { DeallocSays base tree.old owners.old words.old c addr tree.new owners.new words.new result }
 {
     if !contents::is_backed(owners, words) {
-        return Returned::Unbacked;
+        return Err(NotReturned::Unbacked);
     }
-    match claims::may_free(tree, owners, base, c, addr) {
-        MayFree::No(why) => Returned::No(why),
-        MayFree::Frame(k) => {
-            if words.len() / 512 <= k {
-                return Returned::Corrupt;
-            }
-            contents::wipe(words, k, k + 1);
-            owners::assign_one(tree, owners, k, 1, 255);
-            Returned::Done
-        }
+    let k = claims::may_free(tree, owners, base, c, addr)?;
+    if words.len() / 512 <= k {
+        return Err(NotReturned::Corrupt);
     }
+    contents::wipe(words, k, k + 1);
+    owners::assign_one(tree, owners, k, 1, 255);
+    Ok(())
 }
 
 // The client c gives back the `count` frames from an address on, all or none; they are cleared first.
@@ -122,22 +116,18 @@ pub fn dealloc_contiguous(
     c: u8,
     addr: usize,
     count: usize,
-) -> RunReturned
+) -> Result<(), NotReturned<RunNotFreed>>
     ensures { DeallocRunSays base tree.old owners.old words.old c addr count tree.new owners.new words.new result }
 {
     if !contents::is_backed(owners, words) {
-        return RunReturned::Unbacked;
+        return Err(NotReturned::Unbacked);
     }
-    match claims::may_free_run(tree, owners, base, c, addr, count) {
-        MayFreeRun::No(why) => RunReturned::No(why),
-        MayFreeRun::From(k) => {
-            let end = k + count;
-            if words.len() / 512 < end {
-                return RunReturned::Corrupt;
-            }
-            contents::wipe(words, k, end);
-            owners::assign(tree, owners, k, end, 1, 255);
-            RunReturned::Done
-        }
+    let k = claims::may_free_run(tree, owners, base, c, addr, count)?;
+    let end = k + count;
+    if words.len() / 512 < end {
+        return Err(NotReturned::Corrupt);
     }
+    contents::wipe(words, k, end);
+    owners::assign(tree, owners, k, end, 1, 255);
+    Ok(())
 }

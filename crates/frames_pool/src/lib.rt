@@ -8,15 +8,19 @@
 // `Clean`, and every operation keeps them so; `check` decides, from any bytes, whether they are.
 #![tactic(auto)]
 
-ghost use Rattle.frames_pool.specs.Pool.{InitSays, InsertSays, RemoveSays, ReleaseSays, CheckSays};
+ghost use Rattle.std.specs.Prelude.{◌≡◌};
+ghost use Rattle.frames_pool.specs.declared.NotBegun.{NotBegun};
+ghost use Rattle.frames_pool.specs.declared.NotOpened.{NotOpened};
+ghost use Rattle.frames_pool.specs.declared.NotClosed.{NotClosed};
+ghost use Rattle.frames_pool.specs.declared.NotLeft.{NotLeft};
+ghost use Rattle.frames_pool.specs.Pool.{InitSays, InsertSays, RemoveSays, ReleaseSays, unclean, CheckSays};
 
-use allocator_pool::{Checked, Removed};
-use claims::{Fit, MayChange, NotChanged, Unfit};
+use allocator_pool::Unaccounted;
+use claims::{NotChanged, Unfit};
 
-// What became of memories that were to be an allocator's.
-#[derive(Drop)]
-pub enum Begun {
-    Done,
+// Why memories are not made an allocator's.
+#[derive(Clone, Copy, Debug, PartialEq, Eq)]
+pub enum NotBegun {
     // The contents are not those of whole frames, or of more than there are. Each enum below that has
     // this variant means the same by it.
     Unbacked,
@@ -25,10 +29,17 @@ pub enum Begun {
     Unfit(Unfit),
 }
 
-// What became of a range of frames that was to be made free.
-#[derive(Drop)]
-pub enum Opened {
-    Done,
+impl From<Unfit> for NotBegun {
+    ghost from_gives = { λ why e. e ≡ NotBegun.Unfit why };
+
+    fn from(why: Unfit) -> NotBegun {
+        NotBegun::Unfit(why)
+    }
+}
+
+// Why a range of frames is not made free.
+#[derive(Clone, Copy, Debug, PartialEq, Eq)]
+pub enum NotOpened {
     Unbacked,
     // The last frame would end past 2^64 - 1.
     TooHigh,
@@ -37,18 +48,32 @@ pub enum Opened {
     No(NotChanged),
 }
 
-// What became of a range of frames that was to be reserved.
-#[derive(Drop)]
-pub enum Closed {
-    Done,
+impl From<NotChanged> for NotOpened {
+    ghost from_gives = { λ why e. e ≡ NotOpened.No why };
+
+    fn from(why: NotChanged) -> NotOpened {
+        NotOpened::No(why)
+    }
+}
+
+// Why a range of frames is not reserved.
+#[derive(Clone, Copy, Debug, PartialEq, Eq)]
+pub enum NotClosed {
     Unbacked,
     No(NotChanged),
 }
 
-// What became of a client's frames that were to be made free.
-#[derive(Drop)]
-pub enum Left {
-    Done,
+impl From<NotChanged> for NotClosed {
+    ghost from_gives = { λ why e. e ≡ NotClosed.No why };
+
+    fn from(why: NotChanged) -> NotClosed {
+        NotClosed::No(why)
+    }
+}
+
+// Why a client's frames are not made free.
+#[derive(Clone, Copy, Debug, PartialEq, Eq)]
+pub enum NotLeft {
     Unbacked,
     // The client owns a frame that has no contents.
     Corrupt,
@@ -57,10 +82,17 @@ pub enum Left {
     Unfit(Unfit),
 }
 
-// Whether the memories are an allocator's and clean.
-#[derive(Drop)]
-pub enum Looked {
-    Clean,
+impl From<Unfit> for NotLeft {
+    ghost from_gives = { λ why e. e ≡ NotLeft.Unfit why };
+
+    fn from(why: Unfit) -> NotLeft {
+        NotLeft::Unfit(why)
+    }
+}
+
+// Why memories are not an allocator's and clean.
+#[derive(Clone, Copy, Debug, PartialEq, Eq)]
+pub enum Unclean {
     Unbacked,
     // The lowest word of the tree with a bit that does not agree with the word that it summarises.
     Lie(usize),
@@ -73,26 +105,38 @@ pub enum Looked {
     Unfit(Unfit),
 }
 
+impl From<Unaccounted> for Unclean {
+    ghost from_gives = { λ why e. e ≡ unclean why };
+
+    fn from(why: Unaccounted) -> Unclean {
+        match why {
+            Unaccounted::Lie(p) => Unclean::Lie(p),
+            Unaccounted::Wrong(k) => Unclean::Wrong(k),
+            Unaccounted::Unfit(why) => Unclean::Unfit(why),
+        }
+    }
+}
+
 // Makes the frames with contents free and empty, and all others reserved, whatever the memories held.
-pub fn init(tree: &mut [u16], owners: &mut [u8], words: &mut [u64], base: usize) -> Begun
+pub fn init(
+    tree: &mut [u16],
+    owners: &mut [u8],
+    words: &mut [u64],
+    base: usize,
+) -> Result<(), NotBegun>
     ensures { InitSays base tree.old owners.old words.old tree.new owners.new words.new result }
 {
     if !contents::is_backed(owners, words) {
-        return Begun::Unbacked;
+        return Err(NotBegun::Unbacked);
     }
-    match claims::fitting(tree, owners, base) {
-        Fit::No(why) => {
-            return Begun::Unfit(why);
-        }
-        Fit::Yes => {}
-    }
+    claims::fitting(tree, owners, base)?;
     let n = words.len() / 512;
     if (18446744073709551615 - base) / 4096 < n {
-        return Begun::TooHigh;
+        return Err(NotBegun::TooHigh);
     }
     contents::wipe(words, 0, n);
     owner_passes::begin(tree, owners, n);
-    Begun::Done
+    Ok(())
 }
 
 // Makes the frames from `from` up to `to` free and empty, none of which a client owns.
@@ -103,26 +147,22 @@ pub fn insert(
     base: usize,
     from: usize,
     to: usize,
-) -> Opened
+) -> Result<(), NotOpened>
     ensures { InsertSays base tree.old owners.old words.old from to tree.new owners.new words.new result }
 {
     if !contents::is_backed(owners, words) {
-        return Opened::Unbacked;
+        return Err(NotOpened::Unbacked);
     }
-    match claims::may_change(tree, owners, base, from, to) {
-        MayChange::No(why) => Opened::No(why),
-        MayChange::Yes => {
-            if (18446744073709551615 - base) / 4096 < to {
-                return Opened::TooHigh;
-            }
-            if words.len() / 512 < to {
-                return Opened::Beyond;
-            }
-            contents::wipe(words, from, to);
-            owners::assign(tree, owners, from, to, 1, 255);
-            Opened::Done
-        }
+    claims::may_change(tree, owners, base, from, to)?;
+    if (18446744073709551615 - base) / 4096 < to {
+        return Err(NotOpened::TooHigh);
     }
+    if words.len() / 512 < to {
+        return Err(NotOpened::Beyond);
+    }
+    contents::wipe(words, from, to);
+    owners::assign(tree, owners, from, to, 1, 255);
+    Ok(())
 }
 
 // Reserves the frames from `from` up to `to`, none of which a client owns.
@@ -133,16 +173,13 @@ pub fn remove(
     base: usize,
     from: usize,
     to: usize,
-) -> Closed
+) -> Result<(), NotClosed>
     ensures { RemoveSays base tree.old owners.old words.now from to tree.new owners.new result }
 {
     if !contents::is_backed(owners, words) {
-        return Closed::Unbacked;
+        return Err(NotClosed::Unbacked);
     }
-    match allocator_pool::remove(tree, owners, base, from, to) {
-        Removed::Done => Closed::Done,
-        Removed::No(why) => Closed::No(why),
-    }
+    Ok(allocator_pool::remove(tree, owners, base, from, to)?)
 }
 
 // Makes every frame of the client c free; they are cleared first.
@@ -152,56 +189,40 @@ pub fn release_all(
     words: &mut [u64],
     base: usize,
     c: u8,
-) -> Left
+) -> Result<(), NotLeft>
     ensures { ReleaseSays base tree.old owners.old words.old c tree.new owners.new words.new result }
 {
     if !contents::is_backed(owners, words) {
-        return Left::Unbacked;
+        return Err(NotLeft::Unbacked);
     }
-    match claims::fitting(tree, owners, base) {
-        Fit::No(why) => {
-            return Left::Unfit(why);
-        }
-        Fit::Yes => {}
-    }
+    claims::fitting(tree, owners, base)?;
     if c >= 64 {
-        return Left::NoClient;
+        return Err(NotLeft::NoClient);
     }
     if contents::others_until(tree, owners, words.len() / 512, c) != owners.len() {
-        return Left::Corrupt;
+        return Err(NotLeft::Corrupt);
     }
     contents::wipe_owned(tree, owners, words, c);
     owner_passes::release(tree, owners, c);
-    Left::Done
+    Ok(())
 }
 
 // Whether the memories are an allocator's and clean, and where not.
-pub fn check(tree: &[u16], owners: &[u8], words: &[u64], base: usize) -> Looked
+pub fn check(tree: &[u16], owners: &[u8], words: &[u64], base: usize) -> Result<(), Unclean>
     ensures { CheckSays base tree.now owners.now words.now result }
 {
     if !contents::is_backed(owners, words) {
-        return Looked::Unbacked;
+        return Err(Unclean::Unbacked);
     }
-    match allocator_pool::check(tree, owners, base) {
-        Checked::Unfit(why) => {
-            return Looked::Unfit(why);
-        }
-        Checked::Lie(p) => {
-            return Looked::Lie(p);
-        }
-        Checked::Wrong(k) => {
-            return Looked::Wrong(k);
-        }
-        Checked::Accounted => {}
-    }
+    allocator_pool::check(tree, owners, base)?;
     let n = words.len() / 512;
     let beyond = contents::reserved_until(tree, owners, n);
     if beyond != owners.len() {
-        return Looked::Beyond(beyond);
+        return Err(Unclean::Beyond(beyond));
     }
     let dirty = contents::clean_until(tree, owners, words);
     if dirty != n {
-        return Looked::Dirty(dirty);
+        return Err(Unclean::Dirty(dirty));
     }
-    Looked::Clean
+    Ok(())
 }

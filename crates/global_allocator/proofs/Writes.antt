@@ -38,8 +38,8 @@ module _ (base : ℕ) (t o : List ℕ) (c : ℕ) (t' o' : List ℕ) where
     accounted = λ a. still t o k (k + 1) 1 255 t' o' w base a (λ m l h. let e : m ≡ k = omega arith in free_right base m (rw e (has_place base t o k (Owned c) a x.within x.owned (client_not_reserved c))));
   }
 
-  unfoldable pub run-freed : (addr count k : ℕ) → RunMine base t o c addr count k → Assigned t o k (k + count) 1 255 t' o' → TookRunBack base t o c addr count t' o'
-  run-freed addr count k x w = record {
+  unfoldable pub run_freed : (addr count k : ℕ) → RunMine base t o c addr count k → Assigned t o k (k + count) 1 255 t' o' → TookRunBack base t o c addr count t' o'
+  run_freed addr count k x w = record {
     first = k;
     mine = x;
     change = became t o k (k + count) 1 255 t' o' w Free refl;

@@ -8,15 +8,15 @@
 // `Accounted`, as they are from `init` on. `Corrupt` is answered only where they are not.
 #![tactic(auto)]
 
-ghost use Rattle.global_allocator.specs.Addresses.{FidSays, PaddrSays};
+ghost use Rattle.std.specs.Prelude.{◌≡◌};
+ghost use Rattle.global_allocator.specs.Addresses.{no_fid, FidSays, PaddrSays};
 ghost use Rattle.global_allocator.specs.Changes.{AllocSays, RunSays, DeallocSays, DeallocRunSays};
 
-use claims::{MayFree, MayFreeRun, NoFrame, NoRun, NotFreed, Number, Offer, RunNotFreed, RunOffer};
+use claims::{NoFrame, NoRun, NotAFrame, NotFreed, RunNotFreed};
 
-// The number of the frame at an address.
-#[derive(Drop)]
-pub enum Numbered {
-    Frame(usize),
+// Why an address has no frame's number.
+#[derive(Clone, Copy, Debug, PartialEq, Eq)]
+pub enum NoFid {
     // The base is no multiple of 4096.
     BadBase,
     // The address is below the base.
@@ -25,86 +25,61 @@ pub enum Numbered {
     NotAtFrame,
 }
 
-// The address of a frame.
-#[derive(Drop)]
-pub enum Located {
-    At(usize),
+impl From<NotAFrame> for NoFid {
+    ghost from_gives = { λ why e. e ≡ no_fid why };
+
+    fn from(why: NotAFrame) -> NoFid {
+        match why {
+            NotAFrame::Below => NoFid::Below,
+            NotAFrame::NotAtFrame => NoFid::NotAtFrame,
+        }
+    }
+}
+
+// Why a frame has no address.
+#[derive(Clone, Copy, Debug, PartialEq, Eq)]
+pub enum NoPaddr {
     // The base is no multiple of 4096.
     BadBase,
     // The address would pass 2^64 - 1.
     TooHigh,
 }
 
-// The address of the frame that was given.
-#[derive(Drop)]
-pub enum Allocated {
-    At(usize),
-    No(NoFrame),
-}
-
-// The address of the first frame of the run that was given.
-#[derive(Drop)]
-pub enum RunAllocated {
-    At(usize),
-    No(NoRun),
-}
-
-// What became of a frame that was to be given back.
-#[derive(Drop)]
-pub enum Freed {
-    Done,
-    No(NotFreed),
-}
-
-// What became of a run of frames that was to be given back.
-#[derive(Drop)]
-pub enum RunFreed {
-    Done,
-    No(RunNotFreed),
-}
-
 // The number of the frame at an address.
-pub fn paddr_to_fid(base: usize, addr: usize) -> Numbered
+pub fn paddr_to_fid(base: usize, addr: usize) -> Result<usize, NoFid>
     ensures { FidSays base addr result }
 {
     if base % 4096 != 0 {
-        return Numbered::BadBase;
+        return Err(NoFid::BadBase);
     }
-    match claims::number_at(base, addr) {
-        Number::Frame(k) => Numbered::Frame(k),
-        Number::Below => Numbered::Below,
-        Number::NotAtFrame => Numbered::NotAtFrame,
-    }
+    Ok(claims::number_at(base, addr)?)
 }
 
 // The address of frame k.
-pub fn fid_to_paddr(base: usize, k: usize) -> Located
+pub fn fid_to_paddr(base: usize, k: usize) -> Result<usize, NoPaddr>
     ensures { PaddrSays base k result }
 {
     if base % 4096 != 0 {
-        return Located::BadBase;
+        return Err(NoPaddr::BadBase);
     }
     if (18446744073709551615 - base) / 4096 < k {
-        return Located::TooHigh;
+        return Err(NoPaddr::TooHigh);
     }
-    Located::At(base + 4096 * k)
+    Ok(base + 4096 * k)
 }
 
-// Gives the client c the lowest free frame.
-pub fn alloc(tree: &mut [u16], owners: &mut [u8], base: usize, c: u8) -> Allocated
+// Gives the client c the lowest free frame, and answers its address.
+#[tactic(auto, using(crate::proofs::Writes::gave))]
+pub fn alloc(tree: &mut [u16], owners: &mut [u8], base: usize, c: u8) -> Result<usize, NoFrame>
     ensures { AllocSays base tree.old owners.old c tree.new owners.new result }
 {
-    match claims::find_frame(tree, owners, base, c) {
-        Offer::No(why) => Allocated::No(why),
-        Offer::Frame(k) => {
-            owners::assign_one(tree, owners, k, 0, c);
-            Allocated::At(base + 4096 * k)
-        }
-    }
+    let k = claims::find_frame(tree, owners, base, c)?;
+    owners::assign_one(tree, owners, k, 0, c);
+    Ok(base + 4096 * k)
 }
 
 // Gives the client c the lowest run of `size` free frames whose first is a multiple of 2 to the power of
-// `align_log2`.
+// `align_log2`, and answers the first one's address.
 pub fn alloc_contiguous(
     tree: &mut [u16],
     owners: &mut [u8],
@@ -112,29 +87,28 @@ pub fn alloc_contiguous(
     c: u8,
     size: usize,
     align_log2: usize,
-) -> RunAllocated
+) -> Result<usize, NoRun>
     ensures { RunSays base tree.old owners.old c size align_log2 tree.new owners.new result }
 {
-    match claims::find_run(tree, owners, base, c, size, align_log2) {
-        RunOffer::No(why) => RunAllocated::No(why),
-        RunOffer::From(s) => {
-            owners::assign(tree, owners, s, s + size, 0, c);
-            RunAllocated::At(base + 4096 * s)
-        }
-    }
+    let s = claims::find_run(tree, owners, base, c, size, align_log2)?;
+    owners::assign(tree, owners, s, s + size, 0, c);
+    Ok(base + 4096 * s)
 }
 
 // The client c gives back the frame at an address.
-pub fn dealloc(tree: &mut [u16], owners: &mut [u8], base: usize, c: u8, addr: usize) -> Freed
+#[tactic(auto, using(crate::proofs::Writes::freed))]
+pub fn dealloc(
+    tree: &mut [u16],
+    owners: &mut [u8],
+    base: usize,
+    c: u8,
+    addr: usize,
+) -> Result<(), NotFreed>
     ensures { DeallocSays base tree.old owners.old c addr tree.new owners.new result }
 {
-    match claims::may_free(tree, owners, base, c, addr) {
-        MayFree::No(why) => Freed::No(why),
-        MayFree::Frame(k) => {
-            owners::assign_one(tree, owners, k, 1, 255);
-            Freed::Done
-        }
-    }
+    let k = claims::may_free(tree, owners, base, c, addr)?;
+    owners::assign_one(tree, owners, k, 1, 255);
+    Ok(())
 }
 
 // The client c gives back the `count` frames from an address on, all or none.
@@ -145,14 +119,10 @@ pub fn dealloc_contiguous(
     c: u8,
     addr: usize,
     count: usize,
-) -> RunFreed
+) -> Result<(), RunNotFreed>
     ensures { DeallocRunSays base tree.old owners.old c addr count tree.new owners.new result }
 {
-    match claims::may_free_run(tree, owners, base, c, addr, count) {
-        MayFreeRun::No(why) => RunFreed::No(why),
-        MayFreeRun::From(k) => {
-            owners::assign(tree, owners, k, k + count, 1, 255);
-            RunFreed::Done
-        }
-    }
+    let k = claims::may_free_run(tree, owners, base, c, addr, count)?;
+    owners::assign(tree, owners, k, k + count, 1, 255);
+    Ok(())
 }

@@ -1,4 +1,5 @@
 // The allocator's reasons as answers to a machine. A reason that sound memories never give is "corrupt".
+// These are functions and no From, since the types on both sides are other crates'.
 #![tactic(auto)]
 
 ghost use Rattle.std.specs.Prelude.{◌≡◌};

@@ -1,14 +1,13 @@
 -- Who asks: t are the words of the table, and z those of the machines. Assumes nothing.
-use Rattle.std.specs.Prelude.{◌≡◌, true, false, List, ℕ, ◌+◌, ◌≤◌, ◌<◌, length}
+use Rattle.std.specs.Prelude.{◌≡◌, true, false, List, ℕ, ◌+◌, ◌≤◌, ◌<◌, length, Result, Ok, Err}
 use Rattle.config_view.specs.Table.{table_config}
 use Rattle.machine.specs.declared.Reason.{Reason}
+use Rattle.machine.specs.declared.Refusal.{Refusal}
 use Rattle.machine.specs.Step.{machine_of}
 use Rattle.zones.specs.declared.Zone.{Zone}
 use Rattle.zones.specs.Layout.{stride, slots_in, place_of, Flagged, IsZone}
 use Rattle.hv_state.specs.Memory.{present_in}
-use Rattle.hv_asker.specs.declared.Asker.{Asker}
 use Rattle.hv_asker.specs.declared.Client.{Client}
-use Rattle.hv_asker.specs.declared.AskingClient.{AskingClient}
 
 -- the machine that has the number is there
 pub record Here (t z : List ℕ) (number : ℕ) : Type 0 where
@@ -33,10 +32,15 @@ pub data Unasked (t z : List ℕ) (number : ℕ) : Reason → Type 0 where
   IsNobody : Nobody t number → Unasked t z number Reason.NoMachine
   IsAway : Away t z number → Unasked t z number Reason.NotPresent
 
-abbrev pub AskerSays : List ℕ → List ℕ → ℕ → Asker → Type 0
-AskerSays t z number (Asker.Is zone) = Here t z number × IsZone z (table_config t).machines (machine_of (table_config t) number) zone
-AskerSays t z number (Asker.No why) = Unasked t z number why
-AskerSays t z number Asker.Corrupt = Disordered t z
+-- why a request is refused before it is looked at
+abbrev pub Unheard : List ℕ → List ℕ → ℕ → Refusal → Type 0
+Unheard t z number (Refusal.No why) = Unasked t z number why
+Unheard t z number Refusal.Corrupt = Disordered t z
+
+-- the machine that asks
+abbrev pub AskerSays : List ℕ → List ℕ → ℕ → Result Zone Refusal → Type 0
+AskerSays t z number (Ok zone) = Here t z number × IsZone z (table_config t).machines (machine_of (table_config t) number) zone
+AskerSays t z number (Err why) = Unheard t z number why
 
 -- the client is the machine that has the number, the frames begin where the allocator's region does, and the machine's words lie at the place
 pub record IsClient (t z : List ℕ) (number : ℕ) (c : Client) : Type 0 where
@@ -47,7 +51,7 @@ pub record IsClient (t z : List ℕ) (number : ℕ) (c : Client) : Type 0 where
   pub slots : c.slots ≡ slots_in z (table_config t).machines
   pub inside : place_of (slots_in z (table_config t).machines) (machine_of (table_config t) number) + stride (slots_in z (table_config t).machines) ≤ length z
 
-abbrev pub ClientSays : List ℕ → List ℕ → ℕ → AskingClient → Type 0
-ClientSays t z number (AskingClient.Is c) = IsClient t z number c
-ClientSays t z number (AskingClient.No why) = Unasked t z number why
-ClientSays t z number AskingClient.Corrupt = Disordered t z
+-- the client that asks
+abbrev pub ClientSays : List ℕ → List ℕ → ℕ → Result Client Refusal → Type 0
+ClientSays t z number (Ok c) = IsClient t z number c
+ClientSays t z number (Err why) = Unheard t z number why

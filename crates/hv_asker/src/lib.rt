@@ -4,22 +4,12 @@
 
 ghost use Rattle.hv_asker.specs.Asking.{AskerSays, ClientSays};
 
-use config_table::Found;
-use machine::Reason;
+use machine::{Reason, Refusal};
 use zones::{Located, Zone};
-
-// The machine that asks, which is there.
-#[derive(Drop)]
-pub enum Asker {
-    Is(Zone),
-    No(Reason),
-    // The table or the machines' words are not in order.
-    Corrupt,
-}
 
 // A machine as a client of the allocator: its number there, where the allocator's frames begin, and where
 // the machine's words begin, with the slots of each of its sets.
-#[derive(Drop)]
+#[derive(Clone, Copy, Debug, PartialEq, Eq)]
 pub struct Client {
     pub client: u8,
     pub base: usize,
@@ -27,43 +17,29 @@ pub struct Client {
     pub slots: usize,
 }
 
-// The client that asks.
-#[derive(Drop)]
-pub enum AskingClient {
-    Is(Client),
-    No(Reason),
-    Corrupt,
-}
-
 // The machine that has a number and is there.
-pub fn who_asks(table: &[u64], zones: &[u64], number: u64) -> Asker
+#[tactic(auto, using(crate::proofs::Laws::unlocated))]
+pub fn who_asks(table: &[u64], zones: &[u64], number: u64) -> Result<Zone, Refusal>
     ensures { AskerSays table.now zones.now number result }
 {
-    match zones::locate(table, zones, number) {
-        Located::Corrupt => Asker::Corrupt,
-        Located::NoMachine => Asker::No(Reason::NoMachine),
-        Located::Away(_) => Asker::No(Reason::NotPresent),
-        Located::Here(zone) => Asker::Is(zone),
+    match zones::locate(table, zones, number)? {
+        Located::Away(_) => Err(Refusal::No(Reason::NotPresent)),
+        Located::Here(zone) => Ok(zone),
     }
 }
 
 // The client that is the machine that has a number and is there.
-pub fn client_that_asks(table: &[u64], zones: &[u64], number: u64) -> AskingClient
+pub fn client_that_asks(table: &[u64], zones: &[u64], number: u64) -> Result<Client, Refusal>
     ensures { ClientSays table.now zones.now number result }
 {
-    match who_asks(table, zones, number) {
-        Asker::Corrupt => AskingClient::Corrupt,
-        Asker::No(why) => AskingClient::No(why),
-        Asker::Is(zone) => match config_table::pool(table) {
-            Found::NoTable => AskingClient::Corrupt,
-            Found::NoMachine => AskingClient::Corrupt,
-            Found::NoRegion => AskingClient::Corrupt,
-            Found::Is(pool) => AskingClient::Is(Client {
-                client: zone.index as u8,
-                base: pool.host as usize,
-                place: zone.place,
-                slots: zone.slots,
-            }),
-        },
-    }
+    let zone = who_asks(table, zones, number)?;
+    let Ok(pool) = config_table::pool(table) else {
+        return Err(Refusal::Corrupt);
+    };
+    Ok(Client {
+        client: zone.index as u8,
+        base: pool.host as usize,
+        place: zone.place,
+        slots: zone.slots,
+    })
 }

@@ -1,6 +1,7 @@
 -- What the allocator answers the client that asks serves the machine's request, where the frames are all 0. Assumes nothing.
 use mathlib.Core.Path.{◌≡◌, sym, subst}
 use mathlib.Core.List.{List}
+use Rattle.std.specs.Prelude.{Ok, Err}
 use Prim.Native.Nat.{ℕ, ◌+◌, ◌-◌}
 use native.Mathlib.Omega.{arith}
 use Rattle.owners.specs.Writes.{Kept}
@@ -9,10 +10,6 @@ use Rattle.claims.specs.declared.NoFrame.{NoFrame}
 use Rattle.claims.specs.declared.NoRun.{NoRun}
 use Rattle.claims.specs.declared.NotFreed.{NotFreed}
 use Rattle.claims.specs.declared.RunNotFreed.{RunNotFreed}
-use Rattle.global_allocator.specs.declared.Allocated.{Allocated}
-use Rattle.global_allocator.specs.declared.RunAllocated.{RunAllocated}
-use Rattle.global_allocator.specs.declared.Freed.{Freed}
-use Rattle.global_allocator.specs.declared.RunFreed.{RunFreed}
 use Rattle.global_allocator.specs.Changes.{AllocSays, RunSays, DeallocSays, DeallocRunSays}
 use Rattle.frames.proofs.Cleaning.{gave, gave_run}
 use Rattle.machine.specs.declared.Request.{Request}
@@ -39,19 +36,19 @@ module _ (t z tr o w : List ℕ) (blank : Blank w) (number : ℕ) (c : Client) (
   all_kept : (tr' o' : List ℕ) → Kept tr o tr' o' → KeptAll tr o w tr' o' w
   all_kept tr' o' k = record { tree = k.words; bytes = k.bytes; words = λ i. w }
 
-  pub alloc_at : (addr : ℕ) (tr' o' : List ℕ) → AllocSays c.base tr o c.client tr' o' (Allocated.At addr) → Served (mem t z tr o w) number Alloc (mem t z tr' o' w) (Answer.Address addr)
+  pub alloc_at : (addr : ℕ) (tr' o' : List ℕ) → AllocSays c.base tr o c.client tr' o' (Ok addr) → Served (mem t z tr o w) number Alloc (mem t z tr' o' w) (Answer.Address addr)
   alloc_at addr tr' o' g = where_sound (mem t z tr o w) number Alloc (mem t z tr' o' w) (Answer.Address addr) (λ r. absurd r) (λ s. seen.alloc_at t z tr o w number c is addr tr' o' (gave c.base tr o w c.client addr tr' o' s.frames.backed g))
 
-  pub alloc_no : (why : NoFrame) (tr' o' : List ℕ) (a : Answer) → AllocSays c.base tr o c.client tr' o' (Allocated.No why) → a ≡ of_no_frame why → Served (mem t z tr o w) number Alloc (mem t z tr' o' w) a
+  pub alloc_no : (why : NoFrame) (tr' o' : List ℕ) (a : Answer) → AllocSays c.base tr o c.client tr' o' (Err why) → a ≡ of_no_frame why → Served (mem t z tr o w) number Alloc (mem t z tr' o' w) a
   alloc_no why tr' o' a g e = left Alloc a tr' o' g.0 (λ s. seen.alloc_no t z tr o w number c is why tr' o' a (g.0, s.frames.backed, g.1) e)
 
-  pub run_at : (n a addr : ℕ) (tr' o' : List ℕ) → RunSays c.base tr o c.client n a tr' o' (RunAllocated.At addr) → Served (mem t z tr o w) number (AllocContiguous n a) (mem t z tr' o' w) (Answer.Address addr)
+  pub run_at : (n a addr : ℕ) (tr' o' : List ℕ) → RunSays c.base tr o c.client n a tr' o' (Ok addr) → Served (mem t z tr o w) number (AllocContiguous n a) (mem t z tr' o' w) (Answer.Address addr)
   run_at n a addr tr' o' g = where_sound (mem t z tr o w) number (AllocContiguous n a) (mem t z tr' o' w) (Answer.Address addr) (λ r. absurd r) (λ s. seen.run_at t z tr o w number c is n a addr tr' o' (gave_run c.base tr o w c.client n a addr tr' o' s.frames.backed g))
 
-  pub run_no : (n a : ℕ) (why : NoRun) (tr' o' : List ℕ) (x : Answer) → RunSays c.base tr o c.client n a tr' o' (RunAllocated.No why) → x ≡ of_no_run why → Served (mem t z tr o w) number (AllocContiguous n a) (mem t z tr' o' w) x
+  pub run_no : (n a : ℕ) (why : NoRun) (tr' o' : List ℕ) (x : Answer) → RunSays c.base tr o c.client n a tr' o' (Err why) → x ≡ of_no_run why → Served (mem t z tr o w) number (AllocContiguous n a) (mem t z tr' o' w) x
   run_no n a why tr' o' x g e = left (AllocContiguous n a) x tr' o' g.0 (λ s. seen.run_no t z tr o w number c is n a why tr' o' x (g.0, s.frames.backed, g.1) e)
 
-  pub dealloc_done : (addr : ℕ) (tr' o' : List ℕ) → DeallocSays c.base tr o c.client addr tr' o' Freed.Done → Served (mem t z tr o w) number (Dealloc addr) (mem t z tr' o' w) Answer.Done
+  pub dealloc_done : (addr : ℕ) (tr' o' : List ℕ) → DeallocSays c.base tr o c.client addr tr' o' (Ok tt) → Served (mem t z tr o w) number (Dealloc addr) (mem t z tr' o' w) Answer.Done
   dealloc_done addr tr' o' g =
       let k = g.frame in
       where_sound (mem t z tr o w) number (Dealloc addr) (mem t z tr' o' w) Answer.Done (λ r. absurd r)
@@ -64,10 +61,10 @@ module _ (t z tr o w : List ℕ) (blank : Blank w) (number : ℕ) (c : Client) (
         clean = blank_clean w blank c.base tr o c.client k 1 tr' o' (λ j a b. let e : j ≡ k = omega arith in rw e g.mine.owned) g.change g.accounted;
       }))
 
-  pub dealloc_no : (addr : ℕ) (why : NotFreed) (tr' o' : List ℕ) (a : Answer) → DeallocSays c.base tr o c.client addr tr' o' (Freed.No why) → a ≡ of_not_freed why → Served (mem t z tr o w) number (Dealloc addr) (mem t z tr' o' w) a
+  pub dealloc_no : (addr : ℕ) (why : NotFreed) (tr' o' : List ℕ) (a : Answer) → DeallocSays c.base tr o c.client addr tr' o' (Err why) → a ≡ of_not_freed why → Served (mem t z tr o w) number (Dealloc addr) (mem t z tr' o' w) a
   dealloc_no addr why tr' o' a g e = left (Dealloc addr) a tr' o' g.0 (λ s. seen.dealloc_no t z tr o w number c is addr why tr' o' w a (all_kept tr' o' g.0, s.frames.backed, g.1) e)
 
-  pub dealloc_run_done : (addr n : ℕ) (tr' o' : List ℕ) → DeallocRunSays c.base tr o c.client addr n tr' o' RunFreed.Done → Served (mem t z tr o w) number (DeallocContiguous addr n) (mem t z tr' o' w) Answer.Done
+  pub dealloc_run_done : (addr n : ℕ) (tr' o' : List ℕ) → DeallocRunSays c.base tr o c.client addr n tr' o' (Ok tt) → Served (mem t z tr o w) number (DeallocContiguous addr n) (mem t z tr' o' w) Answer.Done
   dealloc_run_done addr n tr' o' g =
       let k = g.first in
       let p = g.mine.some in
@@ -81,5 +78,5 @@ module _ (t z tr o w : List ℕ) (blank : Blank w) (number : ℕ) (c : Client) (
         clean = blank_clean w blank c.base tr o c.client k n tr' o' g.mine.owned g.change g.accounted;
       }))
 
-  pub dealloc_run_no : (addr n : ℕ) (why : RunNotFreed) (tr' o' : List ℕ) (a : Answer) → DeallocRunSays c.base tr o c.client addr n tr' o' (RunFreed.No why) → a ≡ of_run_not_freed why → Served (mem t z tr o w) number (DeallocContiguous addr n) (mem t z tr' o' w) a
+  pub dealloc_run_no : (addr n : ℕ) (why : RunNotFreed) (tr' o' : List ℕ) (a : Answer) → DeallocRunSays c.base tr o c.client addr n tr' o' (Err why) → a ≡ of_run_not_freed why → Served (mem t z tr o w) number (DeallocContiguous addr n) (mem t z tr' o' w) a
   dealloc_run_no addr n why tr' o' a g e = left (DeallocContiguous addr n) a tr' o' g.0 (λ s. seen.dealloc_run_no t z tr o w number c is addr n why tr' o' w a (all_kept tr' o' g.0, s.frames.backed, g.1) e)

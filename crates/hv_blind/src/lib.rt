@@ -3,14 +3,13 @@
 // the table of the configuration, the machines' words, the tree and the owners.
 //
 // Every function takes any words, any bytes and any arguments, and serves the request for whatever words the
-// frames have that are all 0: to clear them changes nothing.
+// frames have that are all 0: to clear them changes nothing. These functions stand beside hv_frames's, since
+// a generic one would be given the call, its errors and its contract, which is all that one of them has.
 #![tactic(auto)]
 
 ghost use Rattle.machine.specs.declared.Request.TheVariants.{Alloc, AllocContiguous, Dealloc, DeallocContiguous};
 ghost use Rattle.hv_blind.specs.Blind.{ServedBlind};
 
-use global_allocator::{Allocated, Freed, RunAllocated, RunFreed};
-use hv_asker::AskingClient;
 use machine::Answer;
 
 // Gives the machine the lowest free frame, and answers its host address.
@@ -23,13 +22,13 @@ pub fn alloc(
 ) -> Answer
     ensures { ServedBlind table.now zones.now tree.old owners.old number Alloc zones.now tree.new owners.new result }
 {
-    match hv_asker::client_that_asks(table, zones, number) {
-        AskingClient::Corrupt => Answer::Corrupt,
-        AskingClient::No(why) => Answer::No(why),
-        AskingClient::Is(c) => match global_allocator::alloc(tree, owners, c.base, c.client) {
-            Allocated::At(addr) => Answer::Address(addr as u64),
-            Allocated::No(why) => hv_answers::of_no_frame(why),
-        },
+    let c = match hv_asker::client_that_asks(table, zones, number) {
+        Ok(c) => c,
+        Err(why) => return Answer::from(why),
+    };
+    match global_allocator::alloc(tree, owners, c.base, c.client) {
+        Ok(addr) => Answer::Address(addr as u64),
+        Err(why) => hv_answers::of_no_frame(why),
     }
 }
 
@@ -46,15 +45,13 @@ pub fn alloc_contiguous(
 ) -> Answer
     ensures { ServedBlind table.now zones.now tree.old owners.old number (AllocContiguous size align_log2) zones.now tree.new owners.new result }
 {
-    match hv_asker::client_that_asks(table, zones, number) {
-        AskingClient::Corrupt => Answer::Corrupt,
-        AskingClient::No(why) => Answer::No(why),
-        AskingClient::Is(c) => match global_allocator::alloc_contiguous(
-            tree, owners, c.base, c.client, size, align_log2,
-        ) {
-            RunAllocated::At(addr) => Answer::Address(addr as u64),
-            RunAllocated::No(why) => hv_answers::of_no_run(why),
-        },
+    let c = match hv_asker::client_that_asks(table, zones, number) {
+        Ok(c) => c,
+        Err(why) => return Answer::from(why),
+    };
+    match global_allocator::alloc_contiguous(tree, owners, c.base, c.client, size, align_log2) {
+        Ok(first) => Answer::Address(first as u64),
+        Err(why) => hv_answers::of_no_run(why),
     }
 }
 
@@ -69,15 +66,13 @@ pub fn dealloc(
 ) -> Answer
     ensures { ServedBlind table.now zones.now tree.old owners.old number (Dealloc addr) zones.now tree.new owners.new result }
 {
-    match hv_asker::client_that_asks(table, zones, number) {
-        AskingClient::Corrupt => Answer::Corrupt,
-        AskingClient::No(why) => Answer::No(why),
-        AskingClient::Is(c) => match global_allocator::dealloc(
-            tree, owners, c.base, c.client, addr,
-        ) {
-            Freed::Done => Answer::Done,
-            Freed::No(why) => hv_answers::of_not_freed(why),
-        },
+    let c = match hv_asker::client_that_asks(table, zones, number) {
+        Ok(c) => c,
+        Err(why) => return Answer::from(why),
+    };
+    match global_allocator::dealloc(tree, owners, c.base, c.client, addr) {
+        Ok(()) => Answer::Done,
+        Err(why) => hv_answers::of_not_freed(why),
     }
 }
 
@@ -93,14 +88,12 @@ pub fn dealloc_contiguous(
 ) -> Answer
     ensures { ServedBlind table.now zones.now tree.old owners.old number (DeallocContiguous addr count) zones.now tree.new owners.new result }
 {
-    match hv_asker::client_that_asks(table, zones, number) {
-        AskingClient::Corrupt => Answer::Corrupt,
-        AskingClient::No(why) => Answer::No(why),
-        AskingClient::Is(c) => match global_allocator::dealloc_contiguous(
-            tree, owners, c.base, c.client, addr, count,
-        ) {
-            RunFreed::Done => Answer::Done,
-            RunFreed::No(why) => hv_answers::of_run_not_freed(why),
-        },
+    let c = match hv_asker::client_that_asks(table, zones, number) {
+        Ok(c) => c,
+        Err(why) => return Answer::from(why),
+    };
+    match global_allocator::dealloc_contiguous(tree, owners, c.base, c.client, addr, count) {
+        Ok(()) => Answer::Done,
+        Err(why) => hv_answers::of_run_not_freed(why),
     }
 }

@@ -1,6 +1,7 @@
 -- A machine is removed whole: its request is served, where the frames are all 0. Assumes nothing.
 use mathlib.Core.Path.{refl, sym, ◌∙◌}
 use mathlib.Core.List.{List}
+use Rattle.std.specs.Prelude.{Ok, Err}
 use Prim.Native.Nat.{ℕ, ◌+◌, ◌*◌, ◌<◌}
 use native.Mathlib.Omega.{arith}
 use Rattle.base.specs.Ranges.{Emptied}
@@ -9,8 +10,7 @@ use Rattle.owners.proofs.States.{client_not_reserved}
 use Rattle.owner_passes.specs.Passes as passes
 use Rattle.contents.specs.Contents.{Clean}
 use Rattle.contents.proofs.Cleaning.{backed_still}
-use Rattle.claims.specs.declared.Unfit.{Unfit}
-use Rattle.allocator_pool.specs.declared.Released.{Released}
+use Rattle.allocator_pool.specs.declared.BadClient.{BadClient}
 use Rattle.allocator_pool.specs.Changes.{ReleaseSays}
 use Rattle.machine.specs.declared.Request.TheVariants.{RemoveZoneWhole}
 use Rattle.machine.specs.declared.Answer.{Answer}
@@ -35,13 +35,11 @@ module _ (t z tr o w : List ℕ) (blank : Blank w) (number : ℕ) (c : Client) (
   left : (tr' o' : List ℕ) → Kept tr o tr' o' → (c.client < 64 → Clean c.base tr o w → ⊥) → Served (mem t z tr o w) number RemoveZoneWhole (mem t z tr' o' w) Answer.Corrupt
   left tr' o' k d = seen.not_freed t z tr o w number c is tr' o' w (record { tree = k.words; bytes = k.bytes; words = refl }, d)
 
-  pub no_client_lem : (tr' o' : List ℕ) → ReleaseSays c.base tr o c.client tr' o' Released.NoClient → Served (mem t z tr o w) number RemoveZoneWhole (mem t z tr' o' w) Answer.Corrupt
-  no_client_lem tr' o' d = left tr' o' d.0 (λ l k. omega (arith, l, d.2))
+  pub unreleased : (why : BadClient) (tr' o' : List ℕ) → ReleaseSays c.base tr o c.client tr' o' (Err why) → Served (mem t z tr o w) number RemoveZoneWhole (mem t z tr' o' w) Answer.Corrupt
+  unreleased BadClient.NoClient tr' o' d = left tr' o' d.0 (λ l k. omega (arith, l, d.2))
+  unreleased (BadClient.Unfit why) tr' o' d = left tr' o' d.0 (λ l k. seen.unfit_not c.base tr o w why d.1 k)
 
-  pub unfit : (why : Unfit) (tr' o' : List ℕ) → ReleaseSays c.base tr o c.client tr' o' (Released.Unfit why) → Served (mem t z tr o w) number RemoveZoneWhole (mem t z tr' o' w) Answer.Corrupt
-  unfit why tr' o' d = left tr' o' d.0 (λ l k. seen.unfit_not c.base tr o w why d.1 k)
-
-  pub whole : (z' tr' o' : List ℕ) → ReleaseSays c.base tr o c.client tr' o' Released.Done → Emptied z c.place (c.place + (3 + 8 * c.slots)) z' → Served (mem t z tr o w) number RemoveZoneWhole (mem t z' tr' o' w) Answer.Done
+  pub whole : (z' tr' o' : List ℕ) → ReleaseSays c.base tr o c.client tr' o' (Ok tt) → Emptied z c.place (c.place + (3 + 8 * c.slots)) z' → Served (mem t z tr o w) number RemoveZoneWhole (mem t z' tr' o' w) Answer.Done
   whole z' tr' o' d e =
       where_sound (mem t z tr o w) number RemoveZoneWhole (mem t z' tr' o' w) Answer.Done (λ r. absurd r)
       (λ s. seen.whole_served t z tr o w number c is tr' o' w z'

@@ -9,8 +9,6 @@
 ghost use Rattle.machine.specs.declared.Request.TheVariants.{RemoveZoneWhole};
 ghost use Rattle.hv_blind.specs.Blind.{ServedBlind};
 
-use allocator_pool::Released;
-use hv_asker::AskingClient;
 use machine::Answer;
 
 // Removes the machine with all its regions and frames.
@@ -23,16 +21,15 @@ pub fn remove_zone_whole(
 ) -> Answer
     ensures { ServedBlind table.now zones.old tree.old owners.old number RemoveZoneWhole zones.new tree.new owners.new result }
 {
-    match hv_asker::client_that_asks(table, zones, number) {
-        AskingClient::Corrupt => Answer::Corrupt,
-        AskingClient::No(why) => Answer::No(why),
-        AskingClient::Is(c) => match allocator_pool::release_all(tree, owners, c.base, c.client) {
-            Released::NoClient => Answer::Corrupt,
-            Released::Unfit(_) => Answer::Corrupt,
-            Released::Done => {
-                base::zero(zones, c.place, c.place + (3 + 8 * c.slots));
-                Answer::Done
-            }
-        },
+    let c = match hv_asker::client_that_asks(table, zones, number) {
+        Ok(c) => c,
+        Err(why) => return Answer::from(why),
+    };
+    match allocator_pool::release_all(tree, owners, c.base, c.client) {
+        Ok(()) => {
+            base::zero(zones, c.place, c.place + (3 + 8 * c.slots));
+            Answer::Done
+        }
+        Err(_) => Answer::Corrupt,
     }
 }

@@ -1,5 +1,5 @@
 -- What is replied to the call in the `len` bytes of s from `from` on: b are the memories before, b' after. Assumes nothing.
-use Rattle.std.specs.Prelude.{◌≡◌, List, ℕ, ◌-◌, ◌*◌, ◌/◌, length}
+use Rattle.std.specs.Prelude.{◌≡◌, List, ℕ, ◌-◌, ◌*◌, ◌/◌}
 use Rattle.set_model.specs.Sets.{table}
 use Rattle.machine.specs.declared.Request.{Request}
 use Rattle.machine.specs.Lists.{Call, Call.One, Call.All, Reply}
@@ -7,14 +7,9 @@ use Rattle.request_bytes.specs.Requests.{request_at}
 use Rattle.call_bytes.specs.Calls.{is_list, member_at, Single, Several, Wrong}
 use Rattle.hv_state.specs.Memory.{Mem}
 use Rattle.hv_state.specs.Serving.{CallServed}
+pub use Rattle.list_undo.specs.Undoing.{SpareFits}
 use Rattle.hv_lists.specs.Listing.{ListDone}
 use Rattle.hv_calls.specs.declared.Replied.{Replied}
-
--- the spare memory is as long as what it is to hold: the machines' words, the tree and the owners' bytes
-pub record SpareFits (z tr o spareZones spareTree spareOwners : List ℕ) : Type 0 where
-  pub zones : length spareZones ≡ length z
-  pub tree : length spareTree ≡ length tr
-  pub owners : length spareOwners ≡ length o
 
 -- how many members a list of so many bytes has
 abbrev pub members_in : ℕ → ℕ

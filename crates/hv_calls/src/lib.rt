@@ -6,14 +6,14 @@ ghost use Rattle.std.specs.Prelude.{◌+◌, ◌*◌, ◌/◌, ◌≤◌, length
 ghost use Rattle.base.specs.Says.{Says};
 ghost use Rattle.base.specs.Ranges.{Only};
 ghost use Rattle.hv_state.specs.Serving.{mem};
-ghost use Rattle.hv_calls.specs.Calling.{SpareFits, answer_words, ReplySays};
+ghost use Rattle.hv_calls.specs.Calling.{answer_words, ReplySays};
+ghost use Rattle.list_undo.specs.Undoing.{SpareFits};
 
-use call_bytes::Shape;
-use hv_lists::Listed;
+use call_bytes::{Malformed, Shape};
+use list_attempt::Halted;
 use machine::Answer;
-use request_bytes::Read;
 
-// What is replied to a call.
+// What is replied to a call. No Result: `call` and what is proved of it speak of these four.
 #[derive(Clone, Copy)]
 pub enum Replied {
     // What one request is answered.
@@ -37,17 +37,9 @@ pub fn fits_spare(
 ) -> bool
     ensures { Says result (SpareFits zones.now tree.now owners.now spare_zones.now spare_tree.now spare_owners.now) }
 {
-    if spare_zones.len() != zones.len() {
-        return false;
-    }
-    if spare_tree.len() != tree.len() {
-        return false;
-    }
-    if spare_owners.len() == owners.len() {
-        true
-    } else {
-        false
-    }
+    spare_zones.len() == zones.len()
+        && spare_tree.len() == tree.len()
+        && spare_owners.len() == owners.len()
 }
 
 // Serves the call in the `len` bytes from `from` on, of the machine that has a number, and writes the answers
@@ -68,19 +60,20 @@ pub fn serve_call(
     answers: &mut [u64],
     at: usize,
 ) -> Replied
-    requires { SpareFits zones.old tree.old owners.old spare_zones.old spare_tree.old spare_owners.old × (from + len ≤ length bytes.now) × (at + 2 * (len / 33) ≤ length answers.old) }
-    ensures { ReplySays bytes.now from len (mem table.now zones.old tree.old owners.old words.old) number (mem table.now zones.new tree.new owners.new words.new) answers.new at result × Only answers.old at (at + answer_words len result) answers.new }
+    requires spare { SpareFits zones.old tree.old owners.old spare_zones.old spare_tree.old spare_owners.old }
+    requires call { from + len ≤ length bytes.now }
+    requires room { at + 2 * (len / 33) ≤ length answers.old }
+    ensures says { ReplySays bytes.now from len (mem table.now zones.old tree.old owners.old words.old) number
+        (mem table.now zones.new tree.new owners.new words.new) answers.new at result }
+    ensures told { Only answers.old at (at + answer_words len result) answers.new }
 {
     match call_bytes::shape_of(bytes, from, len) {
-        Shape::Malformed(i) => Replied::Malformed(i),
-        Shape::One => match request_bytes::read_at(bytes, from) {
-            Read::Malformed => Replied::Malformed(0),
-            Read::Is(q) => {
-                let a = hv_request::serve_request(table, zones, tree, owners, words, number, q);
-                Replied::Answered(a)
-            }
-        },
-        Shape::List(n) => match hv_lists::serve_list(
+        Ok(Shape::One) => {
+            let q = request_bytes::read_at(bytes, from).unwrap();
+            let a = hv_request::serve_request(table, zones, tree, owners, words, number, q);
+            Replied::Answered(a)
+        }
+        Ok(Shape::List(n)) => match hv_lists::serve_list(
             table,
             zones,
             tree,
@@ -96,8 +89,9 @@ pub fn serve_call(
             answers,
             at,
         ) {
-            Listed::Done => Replied::Done,
-            Listed::Stopped(i, a) => Replied::Stopped(i, a),
+            Ok(()) => Replied::Done,
+            Err(Halted { index, answer }) => Replied::Stopped(index, answer),
         },
+        Err(Malformed(i)) => Replied::Malformed(i),
     }
 }

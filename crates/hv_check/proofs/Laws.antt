@@ -2,19 +2,20 @@
 use mathlib.Core.Path.{◌≡◌, refl, sym, ◌∙◌, ap, subst}
 use mathlib.Core.Bool.{Bool}
 use mathlib.Core.List.{List}
+use Rattle.std.specs.Prelude.{⊤, Result, Ok, Err, is_ok}
 use Prim.Native.Nat.{ℕ, ◌+◌, ◌*◌, ◌≤◌, ◌<◌}
 use lib.Dec.{eqb}
 use lib.ListN.{length, get_or}
-use native.Mathlib.Decide.{dec_lt}
+use Rattle.std.proofs.Common.{Err}
+use native.Mathlib.Decide.{dec_lt, ℕ_discrete}
 use native.Mathlib.Omega.{arith}
 use borrow.Author.Tests.{eq-eqb, eqb-true}
+use Rattle.base.specs.Says.{Says}
 use Rattle.base.specs.Search.{Stops}
 use Rattle.base.proofs.Choices.{never}
 use Rattle.base.proofs.Search.{none_first}
-use Rattle.address.proofs.Laws.{Faulty, faulty}
-use Rattle.address.specs.declared.Fault as validity
+use Rattle.address.proofs.Laws.{faulty}
 use Rattle.address.specs.declared.Region.{Region}
-use Rattle.address.specs.Regions.{Valid}
 use Rattle.bitmap_tree.specs.Tree.{free, cap, Agree}
 use Rattle.bitmap_looks.specs.Looks.{LowestLie}
 use Rattle.owners.specs.States as frames
@@ -23,42 +24,34 @@ use Rattle.owners.proofs.States.{free_state, owned_state, reserved_state}
 use Rattle.claims.specs.declared.Unfit.{Unfit}
 use Rattle.claims.specs.Fits.{Misfit}
 use Rattle.contents.specs.Contents.{frames_in, Clean}
+use Rattle.frames_pool.specs.declared.Unclean.{Unclean}
+use Rattle.frames_pool.specs.Pool as pool
 use Rattle.config_model.specs.Config.{Config, ConfigOk}
 use Rattle.config_model.specs.Rules.{Rules}
 use Rattle.config_model.proofs.Laws.{ok_rules}
 use Rattle.config_rules.specs.declared.Reason.{Reason}
-use Rattle.config_rules.specs.Judging.{HasFault, WrongSays}
+use Rattle.config_rules.specs.Judging.{WrongSays}
 use Rattle.config_view.specs.Table.{table_config}
-use Rattle.config.specs.Tables.{Writable}
+use Rattle.config.specs.declared.BadTable.{BadTable}
+use Rattle.config.specs.Tables.{Writable, CheckTableSays}
 use Rattle.machine.specs.declared.Which.{Which}
 use Rattle.machine.specs.declared.Which.TheVariants.{Processors, Devices}
 use Rattle.zones.specs.Layout.{stride, slots_in, place_of, set_at, Shaped}
 use Rattle.zones.proofs.Laws.{place_inside}
 use Rattle.hv_set_right.specs.Right.{SetRight}
+use Rattle.hv_set_right.proofs.Laws.{says_yes, says_no}
 use Rattle.hv_state.specs.Memory.{present_in, Sound}
 use Rattle.hv_state.specs.Serving.{mem}
 use Rattle.hv_state.proofs.Zones.{present_is, present_none}
 use Rattle.hv_check.specs.declared.Fault.{Fault}
-use Rattle.hv_check.specs.declared.Checked.{Checked}
+use Rattle.hv_check.specs.declared.NotSound.{NotSound}
 use Rattle.hv_check.specs.Checking.{Laid, MachineRight, FaultSays, FirstWrong, Machines, FrameRight, Unsound, InOrder, IsClean, CheckSays}
 use Rattle.hv_check.proofs.Parts.{sound_machine, sound_frame, all_sound}
 
 -- ---- the table
 
--- a region with a fault is not valid
-fault_wrong : (guest host pages : ℕ) (f : validity.Fault) → HasFault guest host pages f → Valid guest host pages → ⊥
-fault_wrong guest host pages f h = faulty f (some f h.some) h.is
-  where
-    some : (f : validity.Fault) → (f ≡ validity.Fault.Nothing → ⊥) → Faulty f
-    some validity.Fault.Nothing n = n refl
-    some validity.Fault.NoPage n = tt
-    some validity.Fault.GuestStart n = tt
-    some validity.Fault.HostStart n = tt
-    some validity.Fault.GuestEnd n = tt
-    some validity.Fault.HostEnd n = tt
-
 -- a configuration that is refused is not right
-pub config_wrong : (t : List ℕ) (r : Reason) → WrongSays (table_config t) r → ConfigOk (table_config t) → ⊥
+config_wrong : (t : List ℕ) (r : Reason) → WrongSays (table_config t) r → ConfigOk (table_config t) → ⊥
 config_wrong t r w k = go r w
   where
     rules : Rules (table_config t)
@@ -71,13 +64,19 @@ config_wrong t r w k = go r w
     go (Reason.UnknownKind m i) w = w
     go (Reason.SameNumber m m') w = none_first w rules.numbers
     go (Reason.NotValid m i f) w = none_first w.1 rules.valid
-    go (Reason.PoolNotValid f) w = fault_wrong 0 (table_config t).pool.host (table_config t).pool.pages f w.1 rules.pool_valid
+    go (Reason.PoolNotValid f) w = faulty f w.1 rules.pool_valid
     go (Reason.HostShared m i m' i') w = none_first w.1.first rules.alone
     go (Reason.NotCoinciding m i m' i') w = none_first w.1.first rules.together
     go (Reason.OneMachine m i i') w = none_first w.1.first rules.together
     go (Reason.GuestShared m i i') w = none_first w.1.first rules.clear
     go (Reason.PoolShared m i) w = none_first w.1 rules.off_pool
     go (Reason.LeftOver at) w = w
+
+-- words that are refused are no table of a configuration that is right
+pub table_not : (t : List ℕ) (why : BadTable) → CheckTableSays t (Err why) → Writable t → ⊥
+table_not t BadTable.NoTable f x = f x.table.long
+table_not t BadTable.Stray f x = f.1 x.table
+table_not t (BadTable.Refused r) f x = config_wrong t r f.1 x.ok
 
 -- memories without such a table are not sound
 pub table_unsound : (t z tr o w : List ℕ) → (Writable t → ⊥) → Unsound (mem t z tr o w) (Writable t → ⊥)
@@ -173,11 +172,18 @@ module _ (z : List ℕ) (n slots : ℕ) (t o : List ℕ) (k c : ℕ) (laid : Lai
   here_is : present_in z n c ≡ eqb (get_or z (c * (3 + 8 * slots)) 0) 1
   here_is = present_is z n c l ∙ ap (λ (x : ℕ). eqb (get_or z (place_of x c) 0) 1) (sym laid.is) ∙ ap (λ (x : ℕ). eqb x 1) (flag_of_lem z slots c)
 
-  pub frame_present : get_or z (c * (3 + 8 * slots)) 0 ≡ 1 → FrameRight (present_in z n) (state t o k)
+  frame_present : get_or z (c * (3 + 8 * slots)) 0 ≡ 1 → FrameRight (present_in z n) (state t o k)
   frame_present f = subst (λ (x : frames.State). FrameRight (present_in z n) x) (sym (owned_state t o k c e q few)) (here_is ∙ eq-eqb (get_or z (c * (3 + 8 * slots)) 0) 1 f)
 
-  pub frame_absent : (get_or z (c * (3 + 8 * slots)) 0 ≡ 1 → ⊥) → FrameRight (present_in z n) (state t o k) → ⊥
+  frame_absent : (get_or z (c * (3 + 8 * slots)) 0 ≡ 1 → ⊥) → FrameRight (present_in z n) (state t o k) → ⊥
   frame_absent f h = f (eqb-true (get_or z (c * (3 + 8 * slots)) 0) 1 (sym here_is ∙ subst (λ (x : frames.State). FrameRight (present_in z n) x) (owned_state t o k c e q few) h))
+
+  pub frame_says : Says (eqb (get_or z (c * (3 + 8 * slots)) 0) 1) (FrameRight (present_in z n) (state t o k))
+  frame_says = go (ℕ_discrete (get_or z (c * (3 + 8 * slots)) 0) 1)
+    where
+      go : Dec (get_or z (c * (3 + 8 * slots)) 0 ≡ 1) → Says (eqb (get_or z (c * (3 + 8 * slots)) 0) 1) (FrameRight (present_in z n) (state t o k))
+      go (yes f) = says_yes _ _ f (frame_present f)
+      go (no f) = says_no _ _ f (frame_absent f)
 
 -- ---- the allocator
 
@@ -192,6 +198,16 @@ misfit_not base t o Unfit.NotFull n a = n a.matched.full
 misfit_not base t o Unfit.Unmatched n a = n.1 a.matched.bytes
 misfit_not base t o Unfit.BadBase n a = n.1 a.aligned
 
+-- whether the memories are an allocator's and clean is whether nothing is found that is not
+pub clean_says : (base : ℕ) (t o w : List ℕ) (r : Result ⊤ Unclean) → pool.CheckSays base t o w r → Says (is_ok r) (Clean base t o w)
+clean_says base t o w (Ok _) s = s
+clean_says base t o w (Err Unclean.Unbacked) s = λ x. s x.backed
+clean_says base t o w (Err (Unclean.Lie p)) s = λ x. lie_not t p s.1 x.accounted.agree
+clean_says base t o w (Err (Unclean.Wrong k)) s = λ x. s.1.stops.fails s.1.within (x.accounted.right k s.1.within)
+clean_says base t o w (Err (Unclean.Beyond k)) s = λ x. s.stops.fails s.within (x.beyond k s.stops.low)
+clean_says base t o w (Err (Unclean.Dirty k)) s = λ x. s.stops.fails s.within (λ f. x.zero k (free_state t o k f))
+clean_says base t o w (Err (Unclean.Unfit why)) s = λ x. misfit_not base t o why s.1 x.accounted
+
 -- ---- the memories, with the allocator's region as it is read
 
 module _ (t z tr o w : List ℕ) (p : Region) (is : p ≡ (table_config t).pool) (n slots : ℕ) (h : Machines t z n slots) where
@@ -199,7 +215,7 @@ module _ (t z tr o w : List ℕ) (p : Region) (is : p ≡ (table_config t).pool)
   ordered = in_order t z n slots h
 
   -- memories that are not clean are not sound
-  pub frames_unsound : (Clean p.host tr o w → ⊥) → CheckSays (mem t z tr o w) Checked.Frames
+  pub frames_unsound : (Clean p.host tr o w → ⊥) → CheckSays (mem t z tr o w) (Err NotSound.Frames)
   frames_unsound f = let g = subst (λ (x : Region). Clean x.host tr o w → ⊥) is f in ((ordered, g), λ s. g s.frames)
 
   module _ (c : Clean p.host tr o w) where
@@ -207,7 +223,7 @@ module _ (t z tr o w : List ℕ) (p : Region) (is : p ≡ (table_config t).pool)
     clean = subst (λ (x : Region). Clean x.host tr o w) is c
 
     -- nor those with fewer frames than pages
-    pub few_frames : length o < p.pages → CheckSays (mem t z tr o w) Checked.FewFrames
+    pub few_frames : length o < p.pages → CheckSays (mem t z tr o w) (Err NotSound.FewFrames)
     few_frames l =
         let e = c.accounted.matched.bytes in
         let g : cap tr < (table_config t).pool.pages = subst (λ (x : Region). cap tr < x.pages) is (omega arith) in
@@ -218,7 +234,7 @@ module _ (t z tr o w : List ℕ) (p : Region) (is : p ≡ (table_config t).pool)
       enough = let b = c.accounted.matched.bytes in subst (λ (x : Region). x.pages ≤ cap tr) is (omega arith)
 
       -- nor those with more frames that have contents than pages
-      pub few_pages : p.pages < frames_in w → CheckSays (mem t z tr o w) Checked.FewPages
+      pub few_pages : p.pages < frames_in w → CheckSays (mem t z tr o w) (Err NotSound.FewPages)
       few_pages l =
           let g : (table_config t).pool.pages < frames_in w = subst (λ (x : Region). x.pages < frames_in w) is l in
           ((ordered, clean, enough, g), λ s. let h = s.good.plan.pages in omega arith)
@@ -228,7 +244,7 @@ module _ (t z tr o w : List ℕ) (p : Region) (is : p ≡ (table_config t).pool)
         backed = subst (λ (x : Region). frames_in w ≤ x.pages) is few
 
         -- nor those with a frame that is not right
-        pub frame_unsound : k < frames_in w → CheckSays (mem t z tr o w) (Checked.Frame k)
+        pub frame_unsound : k < frames_in w → CheckSays (mem t z tr o w) (Err (NotSound.Frame k))
         frame_unsound l =
             let g = subst (λ (x : ℕ). Stops (λ j. FrameRight (present_in z x) (state tr o j)) 0 (frames_in w) k) h.number s in
             ((ordered, clean, enough, backed, record { within = l; stops = g }), λ y. g.fails l (sound_frame (mem t z tr o w) k y l))

@@ -1,6 +1,6 @@
 -- What is answered of the memories: `Sound` exactly if they are, and else the first reason why not. c is the configuration, z are the
 -- machines' words, whose sets have so many slots. Assumes nothing.
-use Rattle.std.specs.Prelude.{◌≡◌, Bool, true, List, ℕ, ◌≤◌, ◌<◌, get_or}
+use Rattle.std.specs.Prelude.{◌≡◌, Bool, true, List, ℕ, ◌≤◌, ◌<◌, get_or, Result, Ok, Err}
 use Rattle.base.specs.Search.{Stops}
 use Rattle.bitmap_tree.specs.Tree.{cap}
 use Rattle.owners.specs.States.{State, State.Free, State.Reserved, State.Owned, state}
@@ -14,9 +14,7 @@ use Rattle.zones.specs.Layout.{slots_in, place_of, set_at, Shaped}
 use Rattle.hv_set_right.specs.Right.{SetRight}
 use Rattle.hv_state.specs.Memory.{Mem, config_in, base_in, slots_of, present_in, Sound}
 use Rattle.hv_check.specs.declared.Fault.{Fault}
-use Rattle.hv_check.specs.declared.Judged.{Judged}
-use Rattle.hv_check.specs.declared.AllJudged.{AllJudged}
-use Rattle.hv_check.specs.declared.Checked.{Checked}
+use Rattle.hv_check.specs.declared.NotSound.{NotSound}
 
 -- ---- machines
 
@@ -43,9 +41,10 @@ FaultSays c z slots m Fault.Presence = (c.count m ≤ slots) × (2 ≤ get_or z 
 FaultSays c z slots m Fault.Processors = (c.count m ≤ slots) × (get_or z (place_of slots m) 0 < 2) × (SetOf c z slots m Processors → ⊥)
 FaultSays c z slots m Fault.Devices = (c.count m ≤ slots) × (get_or z (place_of slots m) 0 < 2) × SetOf c z slots m Processors × (SetOf c z slots m Devices → ⊥)
 
-abbrev pub JudgeSays : Config → List ℕ → ℕ → ℕ → Judged → Type 0
-JudgeSays c z slots m Judged.Right = MachineRight c z slots m
-JudgeSays c z slots m (Judged.Wrong why) = FaultSays c z slots m why
+-- whether they are
+abbrev pub JudgeSays : Config → List ℕ → ℕ → ℕ → Result Unit Fault → Type 0
+JudgeSays c z slots m (Ok _) = MachineRight c z slots m
+JudgeSays c z slots m (Err why) = FaultSays c z slots m why
 
 -- machine m is the first whose words are not right
 pub record FirstWrong (c : Config) (z : List ℕ) (slots m : ℕ) (why : Fault) : Type 0 where
@@ -53,9 +52,10 @@ pub record FirstWrong (c : Config) (z : List ℕ) (slots m : ℕ) (why : Fault) 
   pub before : (k : ℕ) → k < m → MachineRight c z slots k
   pub is : FaultSays c z slots m why
 
-abbrev pub AllSays : Config → List ℕ → ℕ → AllJudged → Type 0
-AllSays c z slots AllJudged.Right = (m : ℕ) → m < c.machines → MachineRight c z slots m
-AllSays c z slots (AllJudged.Wrong m why) = FirstWrong c z slots m why
+-- whether the words of all machines are right
+abbrev pub AllSays : Config → List ℕ → ℕ → Result Unit (ℕ × Fault) → Type 0
+AllSays c z slots (Ok _) = (m : ℕ) → m < c.machines → MachineRight c z slots m
+AllSays c z slots (Err e) = FirstWrong c z slots e.0 e.1
 
 -- the table t is right, and so are the words of its n machines
 pub record Machines (t z : List ℕ) (n slots : ℕ) : Type 0 where
@@ -96,12 +96,12 @@ abbrev pub IsClean : Mem → Type 0
 IsClean b = Clean (base_in b) b.tree b.owners b.words
 
 -- each reason stands behind what was met before it
-abbrev pub CheckSays : Mem → Checked → Type 0
-CheckSays b Checked.Sound = Sound b
-CheckSays b Checked.Table = Unsound b (Writable b.table → ⊥)
-CheckSays b Checked.Zones = Unsound b (Writable b.table × (Shaped b.zones (config_in b).machines → ⊥))
-CheckSays b (Checked.Machine m why) = Unsound b (Writable b.table × Shaped b.zones (config_in b).machines × FirstWrong (config_in b) b.zones (slots_of b) m why)
-CheckSays b Checked.Frames = Unsound b (InOrder b × (IsClean b → ⊥))
-CheckSays b Checked.FewFrames = Unsound b (InOrder b × IsClean b × (cap b.tree < (config_in b).pool.pages))
-CheckSays b Checked.FewPages = Unsound b (InOrder b × IsClean b × ((config_in b).pool.pages ≤ cap b.tree) × ((config_in b).pool.pages < frames_in b.words))
-CheckSays b (Checked.Frame k) = Unsound b (InOrder b × IsClean b × ((config_in b).pool.pages ≤ cap b.tree) × (frames_in b.words ≤ (config_in b).pool.pages) × FirstFrame b k)
+abbrev pub CheckSays : Mem → Result Unit NotSound → Type 0
+CheckSays b (Ok _) = Sound b
+CheckSays b (Err NotSound.Table) = Unsound b (Writable b.table → ⊥)
+CheckSays b (Err NotSound.Zones) = Unsound b (Writable b.table × (Shaped b.zones (config_in b).machines → ⊥))
+CheckSays b (Err (NotSound.Machine m why)) = Unsound b (Writable b.table × Shaped b.zones (config_in b).machines × FirstWrong (config_in b) b.zones (slots_of b) m why)
+CheckSays b (Err NotSound.Frames) = Unsound b (InOrder b × (IsClean b → ⊥))
+CheckSays b (Err NotSound.FewFrames) = Unsound b (InOrder b × IsClean b × (cap b.tree < (config_in b).pool.pages))
+CheckSays b (Err NotSound.FewPages) = Unsound b (InOrder b × IsClean b × ((config_in b).pool.pages ≤ cap b.tree) × ((config_in b).pool.pages < frames_in b.words))
+CheckSays b (Err (NotSound.Frame k)) = Unsound b (InOrder b × IsClean b × ((config_in b).pool.pages ≤ cap b.tree) × (frames_in b.words ≤ (config_in b).pool.pages) × FirstFrame b k)

@@ -15,14 +15,10 @@ ghost use Rattle.hv_state.specs.Memory.{present_in};
 ghost use Rattle.hv_state.specs.Serving.{mem};
 ghost use Rattle.hv_check.specs.Checking.{Laid, JudgeSays, AllSays, FrameRight, Machines, CheckSays};
 
-use config::TableVerdict;
-use config_table::Counted;
-use frames_pool::Looked;
 use machine::Which;
-use zones::Shape;
 
 // Why a machine's words are not right.
-#[derive(Drop)]
+#[derive(Clone, Copy, Debug, PartialEq, Eq)]
 pub enum Fault {
     // Its sets have fewer slots than the configuration gives it regions.
     FewSlots,
@@ -35,25 +31,9 @@ pub enum Fault {
     Devices,
 }
 
-// Whether a machine's words are right.
-#[derive(Drop)]
-enum Judged {
-    Right,
-    Wrong(Fault),
-}
-
-// Whether the words of all machines are right.
-#[derive(Drop)]
-enum AllJudged {
-    Right,
-    // Those of this machine are not, the first such.
-    Wrong(usize, Fault),
-}
-
-// Whether the memories are in order, and else the first reason why not.
-#[derive(Drop)]
-pub enum Checked {
-    Sound,
+// Why the memories are not in order: the first reason.
+#[derive(Clone, Copy, Debug, PartialEq, Eq)]
+pub enum NotSound {
     // The words are not a table that `config::load` writes.
     Table,
     // The machines' words are not as many as the machines have.
@@ -77,48 +57,44 @@ fn has_room(table: &[u64], m: usize, slots: usize) -> bool
     ensures { Says result ((table_config table.now).count m ≤ slots) }
 {
     match config_table::count(table, m) {
-        Counted::NoTable => false,
-        Counted::NoMachine => false,
-        Counted::Number(n) => { if n <= slots { true } else { false } }
+        Ok(n) => n <= slots,
+        Err(_) => false,
     }
 }
 
 // Whether the words of machine m are right.
-fn judge(table: &[u64], zones: &[u64], slots: usize, m: usize) -> Judged
+fn judge(table: &[u64], zones: &[u64], slots: usize, m: usize) -> Result<(), Fault>
     requires { (length table.now ≡ 8325) × (m < (table_config table.now).machines) × (place_of slots m + stride slots ≤ length zones.now) }
     ensures { JudgeSays (table_config table.now) zones.now slots m result }
 {
     if !has_room(table, m, slots) {
-        return Judged::Wrong(Fault::FewSlots);
+        return Err(Fault::FewSlots);
     }
     let place = m * (3 + 8 * slots);
     let flag = zones[place];
     if flag > 1 {
-        return Judged::Wrong(Fault::Presence);
+        return Err(Fault::Presence);
     }
     if !hv_set_right::is_right(table, zones, m, place, flag, slots, Which::Processors) {
-        return Judged::Wrong(Fault::Processors);
+        return Err(Fault::Processors);
     }
     if !hv_set_right::is_right(table, zones, m, place, flag, slots, Which::Devices) {
-        return Judged::Wrong(Fault::Devices);
+        return Err(Fault::Devices);
     }
-    Judged::Right
+    Ok(())
 }
 
-// Whether the words of all n machines are right.
-fn judge_all(table: &[u64], zones: &[u64], n: usize, slots: usize) -> AllJudged
+// Whether the words of all n machines are right, and else the first machine whose words are not.
+fn judge_all(table: &[u64], zones: &[u64], n: usize, slots: usize) -> Result<(), (usize, Fault)>
     requires { (length table.now ≡ 8325) × (n ≡ (table_config table.now).machines) × Laid zones.now n slots }
     ensures { AllSays (table_config table.now) zones.now slots result }
 {
-    let mut m = 0;
-    while m < n {
-        match judge(table, zones, slots, m) {
-            Judged::Right => {}
-            Judged::Wrong(why) => return AllJudged::Wrong(m, why),
+    for m in 0..n {
+        if let Err(why) = judge(table, zones, slots, m) {
+            return Err((m, why));
         }
-        m += 1;
     }
-    AllJudged::Right
+    Ok(())
 }
 
 // Whether frame k is free, or owned by one of the n machines that is there.
@@ -140,11 +116,7 @@ fn is_frame_right(
     if n <= m {
         return false;
     }
-    if zones[m * (3 + 8 * slots)] == 1 {
-        true
-    } else {
-        false
-    }
+    zones[m * (3 + 8 * slots)] == 1
 }
 
 // The first frame below `end` that is reserved or owned by a client that is not there, or `end`.
@@ -159,29 +131,19 @@ fn right_until(
     requires { Laid zones.now n slots × Matched tree.now owners.now × (end ≤ cap tree.now) }
     ensures { Stops (λ j. FrameRight (present_in zones.now n) (state tree.now owners.now j)) 0 end result }
 {
-    let mut k = 0;
-    while k < end {
+    for k in 0..end {
         if !is_frame_right(zones, n, slots, tree, owners, k) {
             return k;
         }
-        k += 1;
     }
-    k
+    end
 }
 
 // Whether the tree, the owners and the frames' words are an allocator's and clean.
 fn is_clean(tree: &[u16], owners: &[u8], words: &[u64], base: usize) -> bool
     ensures { Says result (Clean base tree.now owners.now words.now) }
 {
-    match frames_pool::check(tree, owners, words, base) {
-        Looked::Clean => true,
-        Looked::Unbacked => false,
-        Looked::Lie(_) => false,
-        Looked::Wrong(_) => false,
-        Looked::Beyond(_) => false,
-        Looked::Dirty(_) => false,
-        Looked::Unfit(_) => false,
-    }
+    frames_pool::check(tree, owners, words, base).is_ok()
 }
 
 // Whether the memories are in order, where the table and the words of its n machines are.
@@ -193,43 +155,47 @@ fn check_frames(
     words: &[u64],
     n: usize,
     slots: usize,
-) -> Checked
+) -> Result<(), NotSound>
     requires { Machines table.now zones.now n slots }
     ensures { CheckSays (mem table.now zones.now tree.now owners.now words.now) result }
 {
     let pool = region_words::get(table, 8321);
     let pages = pool.pages as usize;
     if !is_clean(tree, owners, words, pool.host as usize) {
-        return Checked::Frames;
+        return Err(NotSound::Frames);
     }
     if owners.len() < pages {
-        return Checked::FewFrames;
+        return Err(NotSound::FewFrames);
     }
     let end = words.len() / 512;
     if pages < end {
-        return Checked::FewPages;
+        return Err(NotSound::FewPages);
     }
     let k = right_until(zones, n, slots, tree, owners, end);
     if k < end {
-        return Checked::Frame(k);
+        return Err(NotSound::Frame(k));
     }
-    Checked::Sound
+    Ok(())
 }
 
 // Whether the memories are in order, and else the first reason why not.
-pub fn check(table: &[u64], zones: &[u64], tree: &[u16], owners: &[u8], words: &[u64]) -> Checked
+pub fn check(
+    table: &[u64],
+    zones: &[u64],
+    tree: &[u16],
+    owners: &[u8],
+    words: &[u64],
+) -> Result<(), NotSound>
     ensures { CheckSays (mem table.now zones.now tree.now owners.now words.now) result }
 {
-    match config::check_table(table) {
-        TableVerdict::NoTable => Checked::Table,
-        TableVerdict::Stray => Checked::Table,
-        TableVerdict::Refused(_) => Checked::Table,
-        TableVerdict::Accepted(n) => match zones::measure(zones, n) {
-            Shape::Wrong => Checked::Zones,
-            Shape::Slots(slots) => match judge_all(table, zones, n, slots) {
-                AllJudged::Wrong(m, why) => Checked::Machine(m, why),
-                AllJudged::Right => check_frames(table, zones, tree, owners, words, n, slots),
-            },
-        },
+    let Ok(n) = config::check_table(table) else {
+        return Err(NotSound::Table);
+    };
+    let Some(slots) = zones::measure(zones, n) else {
+        return Err(NotSound::Zones);
+    };
+    if let Err((m, why)) = judge_all(table, zones, n, slots) {
+        return Err(NotSound::Machine(m, why));
     }
+    check_frames(table, zones, tree, owners, words, n, slots)
 }

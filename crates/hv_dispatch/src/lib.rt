@@ -1,5 +1,6 @@
 // A machine's requests about a set of its regions, where the set is given as a value. The memories are the
-// first two of the order: the table of the configuration and the machines' words.
+// first two of the order: the table of the configuration and the machines' words. hv_regions has a function for each
+// set, as the exported functions do.
 //
 // Every function takes any words and any arguments, and serves the request, whatever the other memories hold.
 #![tactic(auto)]

@@ -6,6 +6,8 @@ use Prim.Native.Nat.{ℕ, ◌+◌, ◌*◌, ◌<◌, ◌≤◌}
 use lib.ListN.{length}
 use native.Mathlib.Decide.{dec_lt}
 use native.Mathlib.Omega.{arith}
+use Rattle.std.specs.Prelude.{Result, Ok, Err}
+use Rattle.std.specs.Result.{IsErrAnd}
 use Rattle.base.specs.Search.{Stops}
 use Rattle.base.specs.Choices.{both, all_from}
 use Rattle.base.proofs.Choices.{never, all_yes, all_at, not_passed}
@@ -25,7 +27,8 @@ use Rattle.machine.specs.Step.{is_empty}
 use Rattle.machine.proofs.Frames.{is_mine_lem, not_mine}
 use Rattle.zones.specs.Layout.{set_at}
 use Rattle.hv_state.proofs.Places.{set_high}
-use Rattle.hv_empty.specs.Empty.{bare, Owns}
+use Rattle.hv_empty.specs.Empty.{bare, RegionsSay, Owns}
+use Rattle.hv_empty.specs.declared.Corrupt.{Corrupt}
 
 -- what is told of the words at a set's beginning is told of the set
 pub bare_is : (z : List ℕ) (place slots at : ℕ) (w : Which) (v : Bool) → at ≡ set_at place slots w → none (regions_in z at slots) ≡ v → bare z place slots w ≡ v
@@ -36,12 +39,17 @@ pub no_set_lem : (z : List ℕ) (place slots at : ℕ) (w : Which) (why : Bad) �
 no_set_lem z place slots at w Bad.NoSet l e b ok = b (let h = set_high place slots w in omega arith)
 no_set_lem z place slots at w Bad.Corrupt l e b ok = b.broken (subst (λ (x : ℕ). SetOk z x slots) (sym e) (ok w))
 
--- neither set has a region where neither is told to, and one has where it is told to
+-- and sets of which one cannot be are not all in order
+pub unread : (P : Corrupt → Type 0) (z : List ℕ) (place slots : ℕ) (r : Result Bool Corrupt) → IsErrAnd r P → (((v : Which) → SetOk z (set_at place slots v) slots) → ⊥) → RegionsSay z place slots r
+unread P z place slots (Ok b) e n = absurd e
+unread P z place slots (Err c) e n = n
+
+-- where the first set has a region one has, and where it has none the second tells
 pub no_first : (a b : Bool) → a ≡ false → both a b ≡ false
 no_first a b e = rw e
 
-pub no_second : (a b : Bool) → a ≡ true → b ≡ false → both a b ≡ false
-no_second a b e f = rw (e, f)
+pub as_second : (a b v : Bool) → a ≡ true → b ≡ v → both a b ≡ v
+as_second a b v e f = rw (e, f)
 
 -- memories that match fit at the base 0
 pub no_fit : (t o : List ℕ) (why : Unfit) → Misfit 0 t o why → Matched t o → ⊥

@@ -11,8 +11,7 @@
 ghost use Rattle.machine.specs.declared.Request.TheVariants.{Alloc, AllocContiguous, Dealloc, DeallocContiguous};
 ghost use Rattle.hv_state.specs.Serving.{Served, mem};
 
-use frames::{Given, Returned, RunGiven, RunReturned};
-use hv_asker::AskingClient;
+use frames::{NotGiven, NotReturned};
 use machine::Answer;
 
 // Gives the machine the lowest free frame, which is empty, and answers its host address.
@@ -26,14 +25,14 @@ pub fn alloc(
 ) -> Answer
     ensures { Served (mem table.now zones.now tree.old owners.old words.now) number Alloc (mem table.now zones.now tree.new owners.new words.now) result }
 {
-    match hv_asker::client_that_asks(table, zones, number) {
-        AskingClient::Corrupt => Answer::Corrupt,
-        AskingClient::No(why) => Answer::No(why),
-        AskingClient::Is(c) => match frames::alloc(tree, owners, words, c.base, c.client) {
-            Given::At(addr) => Answer::Address(addr as u64),
-            Given::Unbacked => Answer::Corrupt,
-            Given::No(why) => hv_answers::of_no_frame(why),
-        },
+    let c = match hv_asker::client_that_asks(table, zones, number) {
+        Ok(c) => c,
+        Err(why) => return Answer::from(why),
+    };
+    match frames::alloc(tree, owners, words, c.base, c.client) {
+        Ok(addr) => Answer::Address(addr as u64),
+        Err(NotGiven::Unbacked) => Answer::Corrupt,
+        Err(NotGiven::No(why)) => hv_answers::of_no_frame(why),
     }
 }
 
@@ -51,16 +50,14 @@ pub fn alloc_contiguous(
 ) -> Answer
     ensures { Served (mem table.now zones.now tree.old owners.old words.now) number (AllocContiguous size align_log2) (mem table.now zones.now tree.new owners.new words.now) result }
 {
-    match hv_asker::client_that_asks(table, zones, number) {
-        AskingClient::Corrupt => Answer::Corrupt,
-        AskingClient::No(why) => Answer::No(why),
-        AskingClient::Is(c) => match frames::alloc_contiguous(
-            tree, owners, words, c.base, c.client, size, align_log2,
-        ) {
-            RunGiven::At(addr) => Answer::Address(addr as u64),
-            RunGiven::Unbacked => Answer::Corrupt,
-            RunGiven::No(why) => hv_answers::of_no_run(why),
-        },
+    let c = match hv_asker::client_that_asks(table, zones, number) {
+        Ok(c) => c,
+        Err(why) => return Answer::from(why),
+    };
+    match frames::alloc_contiguous(tree, owners, words, c.base, c.client, size, align_log2) {
+        Ok(first) => Answer::Address(first as u64),
+        Err(NotGiven::Unbacked) => Answer::Corrupt,
+        Err(NotGiven::No(why)) => hv_answers::of_no_run(why),
     }
 }
 
@@ -76,15 +73,15 @@ pub fn dealloc(
 ) -> Answer
     ensures { Served (mem table.now zones.now tree.old owners.old words.old) number (Dealloc addr) (mem table.now zones.now tree.new owners.new words.new) result }
 {
-    match hv_asker::client_that_asks(table, zones, number) {
-        AskingClient::Corrupt => Answer::Corrupt,
-        AskingClient::No(why) => Answer::No(why),
-        AskingClient::Is(c) => match frames::dealloc(tree, owners, words, c.base, c.client, addr) {
-            Returned::Done => Answer::Done,
-            Returned::Unbacked => Answer::Corrupt,
-            Returned::Corrupt => Answer::Corrupt,
-            Returned::No(why) => hv_answers::of_not_freed(why),
-        },
+    let c = match hv_asker::client_that_asks(table, zones, number) {
+        Ok(c) => c,
+        Err(why) => return Answer::from(why),
+    };
+    match frames::dealloc(tree, owners, words, c.base, c.client, addr) {
+        Ok(()) => Answer::Done,
+        Err(NotReturned::Unbacked) => Answer::Corrupt,
+        Err(NotReturned::Corrupt) => Answer::Corrupt,
+        Err(NotReturned::No(why)) => hv_answers::of_not_freed(why),
     }
 }
 
@@ -101,16 +98,14 @@ pub fn dealloc_contiguous(
 ) -> Answer
     ensures { Served (mem table.now zones.now tree.old owners.old words.old) number (DeallocContiguous addr count) (mem table.now zones.now tree.new owners.new words.new) result }
 {
-    match hv_asker::client_that_asks(table, zones, number) {
-        AskingClient::Corrupt => Answer::Corrupt,
-        AskingClient::No(why) => Answer::No(why),
-        AskingClient::Is(c) => match frames::dealloc_contiguous(
-            tree, owners, words, c.base, c.client, addr, count,
-        ) {
-            RunReturned::Done => Answer::Done,
-            RunReturned::Unbacked => Answer::Corrupt,
-            RunReturned::Corrupt => Answer::Corrupt,
-            RunReturned::No(why) => hv_answers::of_run_not_freed(why),
-        },
+    let c = match hv_asker::client_that_asks(table, zones, number) {
+        Ok(c) => c,
+        Err(why) => return Answer::from(why),
+    };
+    match frames::dealloc_contiguous(tree, owners, words, c.base, c.client, addr, count) {
+        Ok(()) => Answer::Done,
+        Err(NotReturned::Unbacked) => Answer::Corrupt,
+        Err(NotReturned::Corrupt) => Answer::Corrupt,
+        Err(NotReturned::No(why)) => hv_answers::of_run_not_freed(why),
     }
 }

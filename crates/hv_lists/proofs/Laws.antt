@@ -3,9 +3,10 @@
 use mathlib.Core.Path.{◌≡◌, refl, sym, ◌∙◌, ap, subst}
 use mathlib.Core.Bool.{true, false}
 use mathlib.Core.List.{List}
-use Prim.Native.Nat.{ℕ, zero, ◌+◌, ◌*◌, ◌/◌, ◌≤◌, ◌<◌}
+use Prim.Native.Nat.{ℕ, ◌+◌, ◌*◌, ◌/◌, ◌<◌}
 use lib.ListN.{length, get_or, replicate, length-replicate}
 use native.Mathlib.Omega.{arith}
+use Rattle.std.specs.Prelude.{Ok, Err}
 use Rattle.base.proofs.Ranges.{zero_word}
 use Rattle.set_model.specs.Sets.{table}
 use Rattle.config_view.specs.Table.{table_config}
@@ -16,7 +17,7 @@ use Rattle.machine.specs.declared.Answer.{Answer}
 use Rattle.machine.specs.declared.Reason.{Reason}
 use Rattle.machine.specs.State.{Plan, State, Outcome, address_of}
 use Rattle.machine.specs.Step.{machine_of}
-use Rattle.machine.specs.Lists.{Call.All, Reply, Tried.Halted, is_done, all_or_none, call}
+use Rattle.machine.specs.Lists.{Call.All, Reply, Tried, is_done, all_or_none, call}
 use Rattle.machine.specs.Good.{Good}
 use Rattle.machine.proofs.Cases.{of_nobody}
 use Rattle.list_model.specs.Carrying.{state_after, answer_to, blank, cleared_by}
@@ -30,11 +31,9 @@ use Rattle.list_attempt.specs.Attempting.{Told, Went, Halts}
 use Rattle.list_asker.specs.declared.Lister.{Lister}
 use Rattle.list_asker.specs.Listing.{IsLister}
 use Rattle.list_clearing.specs.Clearing.{ClearedAll}
-use Rattle.copies.proofs.Laws.{same_values}
-use Rattle.list_attempt.specs.declared.Tried.{Tried}
+use Rattle.list_attempt.specs.declared.Halted.{Halted}
 use Rattle.list_undo.specs.Undoing.{UndoneSays}
-use Rattle.hv_lists.specs.declared.Listed.{Listed}
-use Rattle.hv_lists.specs.Listing.{ListDone, to_clear, reply_to, ListSays}
+use Rattle.hv_lists.specs.Listing.{ListDone}
 
 -- as many words, all 0
 zeros : List ℕ → List ℕ
@@ -89,7 +88,7 @@ module _ (t z tr o w : List ℕ) where
         same : Halts (mem t z tr o (zeros w)) number f i a → call (plan_of (mem t z tr o w)) (decode (mem t z tr o w)) number (All (table f n)) ≡ record { reply = Reply.Stopped i a; state = decode (mem t z tr o w) }
         same x =
             let e : answer_to (plan_of (mem t z tr o w)) (decode (mem t z tr o w)) number f i ≡ a = sym (answers_same i) ∙ x.answer in
-            ap (all_or_none (decode (mem t z tr o w))) (tries_halted (plan_of (mem t z tr o w)) (decode (mem t z tr o w)) number f n i l (λ k y. ap is_done (sym (answers_same k)) ∙ x.done k y) (ap is_done e ∙ d) ∙ ap (Halted i) e)
+            ap (all_or_none (decode (mem t z tr o w))) (tries_halted (plan_of (mem t z tr o w)) (decode (mem t z tr o w)) number f n i l (λ k y. ap is_done (sym (answers_same k)) ∙ x.done k y) (ap is_done e ∙ d) ∙ ap (Tried.Halted i) e)
 
     -- ---- all went through
 
@@ -157,7 +156,7 @@ module _ (b : Mem) (number : ℕ) (f : ℕ → Request) where
   pub list_nobody : (n : ℕ) → 0 < n → machine_of (plan_of b).config number ≡ (plan_of b).config.machines → CallServed b number (All (table f n)) b (Reply.Stopped 0 (Answer.No Reason.NoMachine))
   list_nobody n l e =
       let x : answer_to (plan_of b) (decode b) number f 0 ≡ Answer.No Reason.NoMachine = ap (λ (o : Outcome). o.answer) (of_nobody (plan_of b) (decode b) number (f 0) e) in
-      record { kept = λ u. refl; same = λ s. ap (all_or_none (decode b)) (tries_halted (plan_of b) (decode b) number f n 0 l (λ k y. absurd (omega arith)) (ap is_done x) ∙ ap (Halted 0) x); sound = λ s. s; plan = λ s. refl }
+      record { kept = λ u. refl; same = λ s. ap (all_or_none (decode b)) (tries_halted (plan_of b) (decode b) number f n 0 l (λ k y. absurd (omega arith)) (ap is_done x) ∙ ap (Tried.Halted 0) x); sound = λ s. s; plan = λ s. refl }
 
   -- there is nothing to do
   pub list_empty : (n : ℕ) (buffer : List ℕ) (at : ℕ) → n ≡ 0 → ListDone b number f n b buffer at
@@ -169,39 +168,30 @@ module _ (b : Mem) (number : ℕ) (f : ℕ → Request) where
 
 -- ---- what was attempted
 
-module _ (t z tr o w : List ℕ) (number : ℕ) (f : ℕ → Request) (n : ℕ) (l : Lister) (is : IsLister t tr o w number l) (st so : List ℕ) (et : st ≡ tr) (eo : so ≡ o) where
-  -- what was copied matches as what was there
-  pub still_matched : Matched st so
-  still_matched = subst (λ (x : List ℕ). Matched x so) (sym et) (subst (λ (y : List ℕ). Matched tr y) (sym eo) is.matched)
+module _ (t z tr o w : List ℕ) (number : ℕ) (f : ℕ → Request) (n : ℕ) (z' tr' o' buffer : List ℕ) (at : ℕ) where
+  -- one was refused, and all was copied back
+  pub list_stopped : (h : Halted) → UndoneSays t z tr o number f n z' tr' o' buffer at (Err h)
+      → CallServed (mem t z tr o w) number (All (table f n)) (mem t z' tr' o' w) (Reply.Stopped h.index h.answer)
+  list_stopped h u =
+      subst (λ (b : Mem). CallServed (mem t z tr o w) number (All (table f n)) b (Reply.Stopped h.index h.answer))
+      (λ j. mem t (sym u.0 j) (sym u.1 j) (sym u.2 j) w)
+      (list_halted t z tr o w number f n h.index h.answer u.3.0 u.3.1 u.3.2)
 
-  pub still_backed : Backed so w
-  still_backed = subst (λ (y : List ℕ). Backed y w) (sym eo) is.backed
+  -- all were done, and what they freed was cleared
+  pub list_done : (w' : List ℕ) (l : Lister) → IsLister t tr o w number l → (st so : List ℕ) → st ≡ tr → so ≡ o → UndoneSays t z tr o number f n z' tr' o' buffer at (Ok tt)
+      → ClearedAll l.first (state st so) l.client f n w w' → ListDone (mem t z tr o w) number f n (mem t z' tr' o' w') buffer at
+  list_done w' l is st so et eo h c =
+      record {
+        served = list_through t z tr o w number f n z' tr' o' w' buffer at h c.long (λ j. c.words j ∙ (λ i. cleared_by (first i) (state (et i) (eo i)) (is.client i) f n j (get_or w j 0)));
+        told = list_told t z tr o w number f n z' tr' o' w' buffer at h;
+      }
+    where
+      first : l.first ≡ address_of (plan_of (mem t z tr o w)) 0
+      first = let e = is.first in omega arith
 
-  module _ (z' tr' o' w' buffer : List ℕ) (at : ℕ) where
-    -- one was refused, all was copied back, and nothing was cleared
-    list_stopped : (i : ℕ) (a : Answer) → UndoneSays t z tr o number f n z' tr' o' buffer at (Tried.Halted i a) → ClearedAll l.first (state st so) l.client f 0 w w' → CallServed (mem t z tr o w) number (All (table f n)) (mem t z' tr' o' w') (Reply.Stopped i a)
-    list_stopped i a h c = subst (λ (b : Mem). CallServed (mem t z tr o w) number (All (table f n)) b (Reply.Stopped i a)) (λ j. mem t (sym h.0 j) (sym h.1 j) (sym h.2 j) (sym (same_values w w' c.long (λ k y. c.words k)) j)) (list_halted t z tr o w number f n i a h.3.0 h.3.1 h.3.2)
+-- what was copied matches as what was there
+pub still_matched : {tr o st so : List ℕ} → st ≡ tr → so ≡ o → Matched tr o → Matched st so
+still_matched {tr} {o} {st} {so} et eo m = subst (λ (x : List ℕ). Matched x so) (sym et) (subst (λ (y : List ℕ). Matched tr y) (sym eo) m)
 
-    -- all were done, and what they freed was cleared
-    list_done : UndoneSays t z tr o number f n z' tr' o' buffer at Tried.Through → ClearedAll l.first (state st so) l.client f n w w' → ListDone (mem t z tr o w) number f n (mem t z' tr' o' w') buffer at
-    list_done h c =
-        record {
-          served = list_through t z tr o w number f n z' tr' o' w' buffer at h c.long (λ j. c.words j ∙ (λ i. cleared_by (first i) (state (et i) (eo i)) (is.client i) f n j (get_or w j 0)));
-          told = list_told t z tr o w number f n z' tr' o' w' buffer at h;
-        }
-      where
-        first : l.first ≡ address_of (plan_of (mem t z tr o w)) 0
-        first = let e = is.first in omega arith
-
-    -- either way
-    pub list_tried : (tried : Tried) (k : ℕ) (r : Listed) → k ≡ to_clear tried n → r ≡ reply_to tried → UndoneSays t z tr o number f n z' tr' o' buffer at tried → ClearedAll l.first (state st so) l.client f k w w' → ListSays t z tr o w number f n z' tr' o' w' buffer at r
-    list_tried tried k r ek er h c = subst (ListSays t z tr o w number f n z' tr' o' w' buffer at) (sym er) (go tried h (subst (λ (x : ℕ). ClearedAll l.first (state st so) l.client f x w w') ek c))
-      where
-        go : (tried : Tried) → UndoneSays t z tr o number f n z' tr' o' buffer at tried → ClearedAll l.first (state st so) l.client f (to_clear tried n) w w' → ListSays t z tr o w number f n z' tr' o' w' buffer at (reply_to tried)
-        go Tried.Through h c = list_done h c
-        go (Tried.Halted i a) h c = list_stopped i a h c
-
--- not more are cleared than there are
-pub few_to_clear : (tried : Tried) (n : ℕ) → to_clear tried n ≤ n
-few_to_clear Tried.Through n = omega arith
-few_to_clear (Tried.Halted i a) n = omega arith
+pub still_backed : {o so w : List ℕ} → so ≡ o → Backed o w → Backed so w
+still_backed {w = w} eo b = subst (λ (y : List ℕ). Backed y w) (sym eo) b

@@ -2,46 +2,19 @@
 // that they freed are cleared. An inner crate: its functions ask what their callers show.
 #![tactic(auto)]
 
-ghost use Rattle.std.specs.Prelude.{◌≡◌, ℕ, ◌+◌, ◌*◌, ◌≤◌, ◌<◌, length};
+ghost use Rattle.std.specs.Prelude.{◌+◌, ◌*◌, ◌≤◌, length};
 ghost use Rattle.base.specs.Ranges.{Only};
-ghost use Rattle.request_bytes.specs.Requests.{request_at, Means};
-ghost use Rattle.hv_lists.specs.Listing.{to_clear, reply_to, ListSays};
+ghost use Rattle.request_bytes.specs.Requests.{nth_request, MeansAll};
+ghost use Rattle.list_undo.specs.Undoing.{SpareFits};
+ghost use Rattle.hv_lists.specs.Listing.{ListSays};
 
-use list_asker::WhoLists;
-use list_attempt::Tried;
+use list_attempt::Halted;
 use machine::{Answer, Reason};
-
-// What is replied to a list.
-#[derive(Drop)]
-pub enum Listed {
-    // All requests were done; where the memories are sound, their answers are written.
-    Done,
-    // A request is the first that is refused, and what it is answered; nothing was done.
-    Stopped(usize, Answer),
-}
-
-// Of how many of n requests that were attempted the freed frames are to be cleared: of all, or of none.
-fn members_to_clear(tried: Tried, n: usize) -> usize
-    ensures { result ≡ to_clear tried n }
-{
-    match tried {
-        Tried::Through => n,
-        Tried::Halted(_, _) => 0,
-    }
-}
-
-// What is replied to what was attempted.
-fn reply_to(tried: Tried) -> Listed
-    ensures { result ≡ reply_to tried }
-{
-    match tried {
-        Tried::Through => Listed::Done,
-        Tried::Halted(i, a) => Listed::Stopped(i, a),
-    }
-}
+use zones::NotLocated;
 
 // Serves the list of the n requests in the bytes from p on, of the machine that has a number, and writes
-// their answers into the buffer from `at` on.
+// their answers into the buffer from `at` on. Where a request is refused nothing is done, and it is answered
+// which is the first.
 pub fn serve_list(
     table: &[u64],
     zones: &mut [u64],
@@ -57,20 +30,30 @@ pub fn serve_list(
     n: usize,
     answers: &mut [u64],
     at: usize,
-) -> Listed
-    requires { (length spare_zones.old ≡ length zones.old) × (length spare_tree.old ≡ length tree.old) × (length spare_owners.old ≡ length owners.old) × (p + 33 * n ≤ length bytes.now) × (at + 2 * n ≤ length answers.old) × ((i : ℕ) → i < n → Means bytes.now (p + 33 * i) (request_at bytes.now (p + 33 * i))) }
-    ensures { ListSays table.now zones.old tree.old owners.old words.old number (λ i. request_at bytes.now (p + 33 * i)) n zones.new tree.new owners.new words.new answers.new at result × Only answers.old at (at + 2 * n) answers.new }
+) -> Result<(), Halted>
+    requires spare { SpareFits zones.old tree.old owners.old spare_zones.old spare_tree.old spare_owners.old }
+    requires members { MeansAll bytes.now p n }
+    requires room { at + 2 * n ≤ length answers.old }
+    ensures says { ListSays table.now zones.old tree.old owners.old words.old number (nth_request bytes.now p) n
+        zones.new tree.new owners.new words.new answers.new at result }
+    ensures told { Only answers.old at (at + 2 * n) answers.new }
 {
     match list_asker::who_lists(table, tree, owners, words, number) {
-        WhoLists::Corrupt => Listed::Stopped(0, Answer::Corrupt),
-        WhoLists::NoMachine => {
+        Err(NotLocated::Corrupt) => Err(Halted {
+            index: 0,
+            answer: Answer::Corrupt,
+        }),
+        Err(NotLocated::NoMachine) => {
             if n == 0 {
-                return Listed::Done;
+                return Ok(());
             }
-            Listed::Stopped(0, Answer::No(Reason::NoMachine))
+            Err(Halted {
+                index: 0,
+                answer: Answer::No(Reason::NoMachine),
+            })
         }
-        WhoLists::Is(l) => {
-            let tried = list_undo::attempt_or_undo(
+        Ok(l) => {
+            list_undo::attempt_or_undo(
                 table,
                 zones,
                 tree,
@@ -84,8 +67,7 @@ pub fn serve_list(
                 n,
                 answers,
                 at,
-            );
-            let freeing = members_to_clear(tried, n);
+            )?;
             list_clearing::clear_all(
                 spare_tree,
                 spare_owners,
@@ -94,9 +76,9 @@ pub fn serve_list(
                 l.client,
                 bytes,
                 p,
-                freeing,
+                n,
             );
-            reply_to(tried)
+            Ok(())
         }
     }
 }

@@ -1,6 +1,6 @@
 -- What is answered of a machine, whatever the words are: t are the words of the table, and z those of the machines. `present_in` and `set_in` are
 -- what they mean to the abstract machine. Assumes nothing.
-use Rattle.std.specs.Prelude.{◌≡◌, true, false, List, ℕ, ◌+◌, ◌≤◌, ◌<◌, length, get_or}
+use Rattle.std.specs.Prelude.{◌≡◌, Bool, true, false, List, ℕ, ◌+◌, ◌≤◌, ◌<◌, length, get_or, Option, Some, None, Result, Ok, Err}
 use Rattle.address.specs.declared.Region.{Region}
 use Rattle.region_words.specs.Words.{nothing}
 use Rattle.config_view.specs.Table.{table_config}
@@ -11,11 +11,21 @@ use Rattle.zones.specs.declared.Zone.{Zone}
 use Rattle.zones.specs.Layout.{stride, slots_in, place_of, set_at, Shaped, PresenceTold}
 use Rattle.hv_state.specs.Memory.{present_in, set_place, set_in}
 use Rattle.hv_asker.specs.Asking.{Nobody}
-use Rattle.hv_looks.specs.declared.Presence.{Presence}
-use Rattle.hv_looks.specs.declared.SetSize.{SetSize}
-use Rattle.hv_looks.specs.declared.SetRegion.{SetRegion}
+use Rattle.zones.specs.declared.NotLocated.{NotLocated}
+use Rattle.hv_looks.specs.declared.NotSeen.{NotSeen}
+use Rattle.hv_looks.specs.declared.NoRegion.{NoRegion}
 use Rattle.hv_looks.specs.declared.Spot.{Spot}
-use Rattle.hv_looks.specs.declared.Place.{Place}
+
+-- why a machine is not seen that is not located
+abbrev pub not_seen : NotLocated → NotSeen
+not_seen NotLocated.NoMachine = NotSeen.NoMachine
+not_seen NotLocated.Corrupt = NotSeen.Corrupt
+
+-- and why there is no region where it is not
+abbrev pub no_region : NotSeen → NoRegion
+no_region NotSeen.NoMachine = NoRegion.NoMachine
+no_region NotSeen.NoTable = NoRegion.NoTable
+no_region NotSeen.Corrupt = NoRegion.Corrupt
 
 -- how many machines the configuration has
 abbrev pub machines_in : List ℕ → ℕ
@@ -48,12 +58,12 @@ abbrev pub flag_of : List ℕ → List ℕ → ℕ → ℕ
 flag_of t z number = get_or z (place_of (slots_in z (machines_in t)) (named t number)) 0
 
 -- whether the machine is there: its word is 1, or 0
-abbrev pub PresenceSays : List ℕ → List ℕ → ℕ → Presence → Type 0
-PresenceSays t z number Presence.Here = Known t z number × (flag_of t z number ≡ 1) × (present_in z (machines_in t) (named t number) ≡ true)
-PresenceSays t z number Presence.Away = Known t z number × (flag_of t z number ≡ 0) × (present_in z (machines_in t) (named t number) ≡ false)
-PresenceSays t z number Presence.NoMachine = Unknown t number
-PresenceSays t z number Presence.NoTable = length t ≡ 8325 → ⊥
-PresenceSays t z number Presence.Corrupt = Corrupted t number (PresenceTold z (machines_in t) (named t number))
+abbrev pub PresenceSays : List ℕ → List ℕ → ℕ → Result Bool NotSeen → Type 0
+PresenceSays t z number (Ok true) = Known t z number × (flag_of t z number ≡ 1) × (present_in z (machines_in t) (named t number) ≡ true)
+PresenceSays t z number (Ok false) = Known t z number × (flag_of t z number ≡ 0) × (present_in z (machines_in t) (named t number) ≡ false)
+PresenceSays t z number (Err NotSeen.NoMachine) = Unknown t number
+PresenceSays t z number (Err NotSeen.NoTable) = length t ≡ 8325 → ⊥
+PresenceSays t z number (Err NotSeen.Corrupt) = Corrupted t number (PresenceTold z (machines_in t) (named t number))
 
 -- ---- sets
 
@@ -70,11 +80,11 @@ abbrev pub SoundSet : List ℕ → List ℕ → ℕ → Which → Type 0
 SoundSet t z number w = PresenceTold z (machines_in t) (named t number) × SetOk z (set_place z (machines_in t) (named t number) w) (slots_in z (machines_in t))
 
 -- how many regions a set has
-abbrev pub SetSizeSays : List ℕ → List ℕ → ℕ → Which → SetSize → Type 0
-SetSizeSays t z number w (SetSize.Number n) = Known t z number × HasSet t z number w × (n ≡ length (regions_of t z number w))
-SetSizeSays t z number w SetSize.NoMachine = Unknown t number
-SetSizeSays t z number w SetSize.NoTable = length t ≡ 8325 → ⊥
-SetSizeSays t z number w SetSize.Corrupt = Corrupted t number (SoundSet t z number w)
+abbrev pub SetSizeSays : List ℕ → List ℕ → ℕ → Which → Result ℕ NotSeen → Type 0
+SetSizeSays t z number w (Ok n) = Known t z number × HasSet t z number w × (n ≡ length (regions_of t z number w))
+SetSizeSays t z number w (Err NotSeen.NoMachine) = Unknown t number
+SetSizeSays t z number w (Err NotSeen.NoTable) = length t ≡ 8325 → ⊥
+SetSizeSays t z number w (Err NotSeen.Corrupt) = Corrupted t number (SoundSet t z number w)
 
 -- r is region i of a set
 pub record IsRegion (t z : List ℕ) (number : ℕ) (w : Which) (i : ℕ) (r : Region) : Type 0 where
@@ -84,12 +94,12 @@ pub record IsRegion (t z : List ℕ) (number : ℕ) (w : Which) (i : ℕ) (r : R
   pub is : r ≡ get_or (regions_of t z number w) i nothing
 
 -- region i of a set
-abbrev pub SetRegionSays : List ℕ → List ℕ → ℕ → Which → ℕ → SetRegion → Type 0
-SetRegionSays t z number w i (SetRegion.Is r) = IsRegion t z number w i r
-SetRegionSays t z number w i SetRegion.NoRegion = Known t z number × HasSet t z number w × (length (regions_of t z number w) ≤ i)
-SetRegionSays t z number w i SetRegion.NoMachine = Unknown t number
-SetRegionSays t z number w i SetRegion.NoTable = length t ≡ 8325 → ⊥
-SetRegionSays t z number w i SetRegion.Corrupt = Corrupted t number (SoundSet t z number w)
+abbrev pub SetRegionSays : List ℕ → List ℕ → ℕ → Which → ℕ → Result Region NoRegion → Type 0
+SetRegionSays t z number w i (Ok r) = IsRegion t z number w i r
+SetRegionSays t z number w i (Err NoRegion.NoRegion) = Known t z number × HasSet t z number w × (length (regions_of t z number w) ≤ i)
+SetRegionSays t z number w i (Err NoRegion.NoMachine) = Unknown t number
+SetRegionSays t z number w i (Err NoRegion.NoTable) = length t ≡ 8325 → ⊥
+SetRegionSays t z number w i (Err NoRegion.Corrupt) = Corrupted t number (SoundSet t z number w)
 
 -- ---- beneath these: where a set lies
 
@@ -104,15 +114,13 @@ abbrev pub Inside : List ℕ → Zone → Type 0
 Inside z zone = zone.place + stride zone.slots ≤ length z
 
 -- a set of the zone
-abbrev pub SpotSays : List ℕ → Zone → Which → Place → Type 0
-SpotSays z zone w (Place.Is s) = IsSpot z (set_at zone.place zone.slots w) zone.slots s
-SpotSays z zone w Place.NoMachine = ⊥
-SpotSays z zone w Place.NoTable = ⊥
-SpotSays z zone w Place.Corrupt = SetOk z (set_at zone.place zone.slots w) zone.slots → ⊥
+abbrev pub SpotSays : List ℕ → Zone → Which → Option Spot → Type 0
+SpotSays z zone w (Some s) = IsSpot z (set_at zone.place zone.slots w) zone.slots s
+SpotSays z zone w None = SetOk z (set_at zone.place zone.slots w) zone.slots → ⊥
 
 -- a set of the machine that has a number
-abbrev pub PlaceSays : List ℕ → List ℕ → ℕ → Which → Place → Type 0
-PlaceSays t z number w (Place.Is s) = Known t z number × IsSpot z (set_place z (machines_in t) (named t number) w) (slots_in z (machines_in t)) s
-PlaceSays t z number w Place.NoMachine = Unknown t number
-PlaceSays t z number w Place.NoTable = length t ≡ 8325 → ⊥
-PlaceSays t z number w Place.Corrupt = Corrupted t number (SoundSet t z number w)
+abbrev pub PlaceSays : List ℕ → List ℕ → ℕ → Which → Result Spot NotSeen → Type 0
+PlaceSays t z number w (Ok s) = Known t z number × IsSpot z (set_place z (machines_in t) (named t number) w) (slots_in z (machines_in t)) s
+PlaceSays t z number w (Err NotSeen.NoMachine) = Unknown t number
+PlaceSays t z number w (Err NotSeen.NoTable) = length t ≡ 8325 → ⊥
+PlaceSays t z number w (Err NotSeen.Corrupt) = Corrupted t number (SoundSet t z number w)

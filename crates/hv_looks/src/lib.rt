@@ -5,133 +5,130 @@
 // to the abstract machine, and "corrupt" is answered only where the words of that machine are not in order.
 #![tactic(auto)]
 
-ghost use Rattle.hv_looks.specs.Looks.{Inside, SpotSays, PlaceSays, PresenceSays, SetSizeSays, SetRegionSays};
+ghost use Rattle.std.specs.Prelude.{◌≡◌};
+ghost use Rattle.hv_looks.specs.Looks.{Inside, SpotSays, PlaceSays, PresenceSays, SetSizeSays, SetRegionSays, not_seen, no_region};
 
 use address::Region;
 use machine::Which;
-use set_claims::Size;
-use zones::{Located, Zone};
+use zones::{Located, NotLocated, Zone};
 
-// Whether a machine is there.
-#[derive(Drop)]
-pub enum Presence {
-    Here,
-    // It has not been added.
-    Away,
-    // No machine of the configuration has the number. Each enum below that has this variant means the
-    // same by it.
+// Why a machine's words say nothing of it.
+#[derive(Clone, Copy, Debug, PartialEq, Eq)]
+pub enum NotSeen {
+    // No machine of the configuration has the number.
     NoMachine,
-    // The words are not as many as a table has. Each enum below that has this variant means the same by it.
+    // The words are not as many as a table has.
     NoTable,
-    // The words are not those of the configuration's machines, or the first of that machine's is neither 0 nor 1.
+    // The words are not those of the configuration's machines, the first of that machine's is neither 0 nor 1, or
+    // the set that is asked about is not in order.
     Corrupt,
 }
 
-// How many regions a set has.
-#[derive(Drop)]
-pub enum SetSize {
-    Number(usize),
-    NoMachine,
-    NoTable,
-    // As of its presence, or that set is not in order. The enum below means the same by it.
-    Corrupt,
-}
-
-// A region of a set.
-#[derive(Drop)]
-pub enum SetRegion {
-    Is(Region),
+// Why there is no region to see.
+#[derive(Clone, Copy, Debug, PartialEq, Eq)]
+pub enum NoRegion {
     // The set has no such region.
     NoRegion,
+    // No machine of the configuration has the number.
     NoMachine,
+    // The words are not as many as a table has.
     NoTable,
+    // The words are not in order, as of `NotSeen`.
     Corrupt,
+}
+
+impl From<NotLocated> for NotSeen {
+    ghost from_gives = { λ why e. e ≡ not_seen why };
+
+    fn from(why: NotLocated) -> NotSeen {
+        match why {
+            NotLocated::NoMachine => Self::NoMachine,
+            NotLocated::Corrupt => Self::Corrupt,
+        }
+    }
+}
+
+impl From<NotSeen> for NoRegion {
+    ghost from_gives = { λ why e. e ≡ no_region why };
+
+    fn from(why: NotSeen) -> NoRegion {
+        match why {
+            NotSeen::NoMachine => Self::NoMachine,
+            NotSeen::NoTable => Self::NoTable,
+            NotSeen::Corrupt => Self::Corrupt,
+        }
+    }
 }
 
 // A set of regions: where it begins, and how many it has.
-#[derive(Drop)]
+#[derive(Clone, Copy, Debug, PartialEq, Eq)]
 struct Spot {
     at: usize,
     count: usize,
 }
 
-// A set of a machine.
-#[derive(Drop)]
-enum Place {
-    Is(Spot),
-    NoMachine,
-    NoTable,
-    Corrupt,
-}
-
-// A set of the machine whose words are a zone's.
-fn spot_in(zones: &[u64], zone: Zone, which: Which) -> Place
+// A set of the machine whose words are a zone's, if it is in order.
+#[tactic(auto, using(crate::proofs::Laws::spot_good, crate::proofs::Laws::spot_bad))]
+fn spot_in(zones: &[u64], zone: Zone, which: Which) -> Option<Spot>
     requires { Inside zones.now zone }
     ensures { SpotSays zones.now zone which result }
 {
     let at = zones::set_at(zone.place, zone.slots, which);
     match set_claims::count(zones, at, zone.slots) {
-        Size::No(_) => Place::Corrupt,
-        Size::Is(n) => Place::Is(Spot { at: at, count: n }),
+        Err(_) => None,
+        Ok(count) => Some(Spot { at, count }),
     }
 }
 
 // A set of the machine that has a number.
-fn set_of(table: &[u64], zones: &[u64], number: u64, which: Which) -> Place
+#[tactic(auto, using(crate::proofs::Laws::set_not_seen))]
+fn set_of(table: &[u64], zones: &[u64], number: u64, which: Which) -> Result<Spot, NotSeen>
     ensures { PlaceSays table.now zones.now number which result }
 {
     if table.len() != 8325 {
-        return Place::NoTable;
+        return Err(NotSeen::NoTable);
     }
-    match zones::locate(table, zones, number) {
-        Located::Corrupt => Place::Corrupt,
-        Located::NoMachine => Place::NoMachine,
-        Located::Away(zone) => spot_in(zones, zone, which),
-        Located::Here(zone) => spot_in(zones, zone, which),
-    }
+    let zone = match zones::locate(table, zones, number)? {
+        Located::Away(zone) => zone,
+        Located::Here(zone) => zone,
+    };
+    spot_in(zones, zone, which).ok_or(NotSeen::Corrupt)
 }
 
 // Whether the machine that has a number is there.
-pub fn is_there(table: &[u64], zones: &[u64], number: u64) -> Presence
+#[tactic(auto, using(crate::proofs::Laws::machine_not_seen))]
+pub fn is_there(table: &[u64], zones: &[u64], number: u64) -> Result<bool, NotSeen>
     ensures { PresenceSays table.now zones.now number result }
 {
     if table.len() != 8325 {
-        return Presence::NoTable;
+        return Err(NotSeen::NoTable);
     }
-    match zones::locate(table, zones, number) {
-        Located::Corrupt => Presence::Corrupt,
-        Located::NoMachine => Presence::NoMachine,
-        Located::Away(_) => Presence::Away,
-        Located::Here(_) => Presence::Here,
+    match zones::locate(table, zones, number)? {
+        Located::Away(_) => Ok(false),
+        Located::Here(_) => Ok(true),
     }
 }
 
 // How many regions a set of the machine that has a number has.
-pub fn regions(table: &[u64], zones: &[u64], number: u64, which: Which) -> SetSize
+pub fn regions(table: &[u64], zones: &[u64], number: u64, which: Which) -> Result<usize, NotSeen>
     ensures { SetSizeSays table.now zones.now number which result }
 {
-    match set_of(table, zones, number, which) {
-        Place::Corrupt => SetSize::Corrupt,
-        Place::NoTable => SetSize::NoTable,
-        Place::NoMachine => SetSize::NoMachine,
-        Place::Is(spot) => SetSize::Number(spot.count),
-    }
+    Ok(set_of(table, zones, number, which)?.count)
 }
 
 // Region i of a set of the machine that has a number, counted from 0.
-pub fn region(table: &[u64], zones: &[u64], number: u64, which: Which, i: usize) -> SetRegion
+pub fn region(
+    table: &[u64],
+    zones: &[u64],
+    number: u64,
+    which: Which,
+    i: usize,
+) -> Result<Region, NoRegion>
     ensures { SetRegionSays table.now zones.now number which i result }
 {
-    match set_of(table, zones, number, which) {
-        Place::Corrupt => SetRegion::Corrupt,
-        Place::NoTable => SetRegion::NoTable,
-        Place::NoMachine => SetRegion::NoMachine,
-        Place::Is(spot) => {
-            if spot.count <= i {
-                return SetRegion::NoRegion;
-            }
-            let r = region_words::get(zones, spot.at + 1 + 4 * i);
-            SetRegion::Is(r)
-        }
+    let spot = set_of(table, zones, number, which)?;
+    if spot.count <= i {
+        return Err(NoRegion::NoRegion);
     }
+    Ok(region_words::get(zones, spot.at + 1 + 4 * i))
 }

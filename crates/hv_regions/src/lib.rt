@@ -15,26 +15,22 @@ ghost use Rattle.machine.specs.declared.Request.TheVariants.{Insert, Remove, Tra
 ghost use Rattle.hv_state.specs.Serving.{Served, mem};
 
 use address::Region;
-use config_table::Given;
-use hv_sets::AskedSet;
 use machine::{Answer, Reason, Which};
-use memory_set::Translation;
-use memory_set_changes::{Inserted, Removed};
+use memory_set::NotMapped;
+use memory_set_changes::NotRemoved;
 
 // Puts a region into a set of the machine.
 fn enter(table: &[u64], zones: &mut [u64], number: u64, which: Which, region: Region) -> Answer
     ensures { (t o w : List ℕ) → Served (mem table.now zones.old t o w) number (Insert which region) (mem table.now zones.new t o w) result }
 {
     match hv_sets::set_that_is_asked(table, zones, number, which) {
-        AskedSet::Corrupt => Answer::Corrupt,
-        AskedSet::No(why) => Answer::No(why),
-        AskedSet::Is(spot) => match config_table::is_given(table, spot.index, region) {
-            Given::NoTable => Answer::Corrupt,
-            Given::NoMachine => Answer::Corrupt,
-            Given::No => Answer::No(Reason::NotGiven),
-            Given::At(_) => match memory_set_changes::insert(zones, spot.at, spot.slots, region) {
-                Inserted::Done => Answer::Done,
-                Inserted::No(why) => hv_sets::of_not_inserted(why),
+        Err(why) => Answer::from(why),
+        Ok(spot) => match config_table::is_given(table, spot.index, region) {
+            Err(_) => Answer::Corrupt,
+            Ok(None) => Answer::No(Reason::NotGiven),
+            Ok(Some(_)) => match memory_set_changes::insert(zones, spot.at, spot.slots, region) {
+                Ok(()) => Answer::Done,
+                Err(why) => hv_sets::of_not_inserted(why),
             },
         },
     }
@@ -45,12 +41,11 @@ fn leave(table: &[u64], zones: &mut [u64], number: u64, which: Which, region: Re
     ensures { (t o w : List ℕ) → Served (mem table.now zones.old t o w) number (Remove which region) (mem table.now zones.new t o w) result }
 {
     match hv_sets::set_that_is_asked(table, zones, number, which) {
-        AskedSet::Corrupt => Answer::Corrupt,
-        AskedSet::No(why) => Answer::No(why),
-        AskedSet::Is(spot) => match memory_set_changes::remove(zones, spot.at, spot.slots, region) {
-            Removed::Done => Answer::Done,
-            Removed::NotThere => Answer::No(Reason::NotInSet),
-            Removed::Bad(_) => Answer::Corrupt,
+        Err(why) => Answer::from(why),
+        Ok(spot) => match memory_set_changes::remove(zones, spot.at, spot.slots, region) {
+            Ok(_) => Answer::Done,
+            Err(NotRemoved::NotThere) => Answer::No(Reason::NotInSet),
+            Err(NotRemoved::Bad(_)) => Answer::Corrupt,
         },
     }
 }
@@ -88,12 +83,11 @@ pub fn translate(table: &[u64], zones: &[u64], number: u64, which: Which, addr: 
     ensures { (t o w : List ℕ) → Served (mem table.now zones.now t o w) number (Translate which addr) (mem table.now zones.now t o w) result }
 {
     match hv_sets::set_that_is_asked(table, zones, number, which) {
-        AskedSet::Corrupt => Answer::Corrupt,
-        AskedSet::No(why) => Answer::No(why),
-        AskedSet::Is(spot) => match memory_set::translate(zones, spot.at, spot.slots, addr) {
-            Translation::Host(host) => Answer::Address(host),
-            Translation::NotMapped => Answer::No(Reason::NotMapped),
-            Translation::Bad(_) => Answer::Corrupt,
+        Err(why) => Answer::from(why),
+        Ok(spot) => match memory_set::translate(zones, spot.at, spot.slots, addr) {
+            Ok(host) => Answer::Address(host),
+            Err(NotMapped::NoRegion) => Answer::No(Reason::NotMapped),
+            Err(NotMapped::Bad(_)) => Answer::Corrupt,
         },
     }
 }

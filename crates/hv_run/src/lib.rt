@@ -9,17 +9,17 @@
 // members. Where the memories are sound, they stay so, and mean what the calls make of what they meant.
 #![tactic(auto)]
 
+ghost use Rattle.std.specs.Prelude.{◌≡◌};
 ghost use Rattle.hv_state.specs.Serving.{mem};
 ghost use Rattle.hv_run.specs.Sequence.{RanSays};
+ghost use Rattle.hv_run.specs.declared.NotRun.{NotRun};
 
-use call_bytes::Framing;
+use call_bytes::Broken;
 
-// What came of a sequence of calls.
-#[derive(Clone, Copy)]
-pub enum Ran {
-    // So many calls were served.
-    Done(usize),
-    // At an offset an item is not whole; nothing was done.
+// Why no call of a sequence was served.
+#[derive(Clone, Copy, Debug, PartialEq, Eq)]
+pub enum NotRun {
+    // At an offset an item is not whole.
     Broken(usize),
     // There are fewer than three words for the reply to each call, or than two for the answer to each request,
     // that the bytes have room for.
@@ -28,7 +28,15 @@ pub enum Ran {
     Spare,
 }
 
-// Serves the calls one after the other.
+impl From<Broken> for NotRun {
+    ghost from_gives = { λ e r. r ≡ NotRun.Broken e.0 };
+
+    fn from(e: Broken) -> NotRun {
+        NotRun::Broken(e.0)
+    }
+}
+
+// Serves the calls one after the other, and answers how many they are.
 pub fn run(
     table: &[u64],
     zones: &mut [u64],
@@ -41,36 +49,34 @@ pub fn run(
     bytes: &[u8],
     replies: &mut [u64],
     answers: &mut [u64],
-) -> Ran
-    ensures { RanSays bytes.now replies.old answers.old spare_zones.old spare_tree.old spare_owners.old (mem table.now zones.old tree.old owners.old words.old) (mem table.now zones.new tree.new owners.new words.new) replies.new answers.new result }
+) -> Result<usize, NotRun>
+    ensures { RanSays bytes.now replies.old answers.old spare_zones.old spare_tree.old spare_owners.old
+        (mem table.now zones.old tree.old owners.old words.old)
+        (mem table.now zones.new tree.new owners.new words.new) replies.new answers.new result }
 {
     let len = bytes.len();
     if replies.len() < 3 * (len / 16) {
-        return Ran::FewWords;
+        return Err(NotRun::FewWords);
     }
     if answers.len() < 2 * (len / 33) {
-        return Ran::FewWords;
+        return Err(NotRun::FewWords);
     }
     if !hv_calls::fits_spare(zones, tree, owners, spare_zones, spare_tree, spare_owners) {
-        return Ran::Spare;
+        return Err(NotRun::Spare);
     }
-    match call_bytes::framing_of(bytes) {
-        Framing::Broken(q) => Ran::Broken(q),
-        Framing::Whole(n) => {
-            run_items::serve_items(
-                table,
-                zones,
-                tree,
-                owners,
-                words,
-                spare_zones,
-                spare_tree,
-                spare_owners,
-                bytes,
-                replies,
-                answers,
-            );
-            Ran::Done(n)
-        }
-    }
+    let n = call_bytes::framing_of(bytes)?;
+    run_items::serve_items(
+        table,
+        zones,
+        tree,
+        owners,
+        words,
+        spare_zones,
+        spare_tree,
+        spare_owners,
+        bytes,
+        replies,
+        answers,
+    );
+    Ok(n)
 }

@@ -13,10 +13,9 @@ ghost use Rattle.hv_serve.specs.Called.{CalledSays};
 
 use hv_calls::Replied;
 
-// What is replied to a call.
-#[derive(Clone, Copy)]
-pub enum Called {
-    Replied(Replied),
+// Why a call was not looked at.
+#[derive(Clone, Copy, Debug, PartialEq, Eq)]
+pub enum NotServed {
     // There are fewer than two words for the answers to each request that the bytes have room for.
     FewWords,
     // The spare memory is not as long as what it is to hold.
@@ -36,17 +35,19 @@ pub fn serve(
     number: u64,
     bytes: &[u8],
     answers: &mut [u64],
-) -> Called
-    ensures { CalledSays bytes.now answers.old spare_zones.old spare_tree.old spare_owners.old (mem table.now zones.old tree.old owners.old words.old) number (mem table.now zones.new tree.new owners.new words.new) answers.new result }
+) -> Result<Replied, NotServed>
+    ensures { CalledSays bytes.now answers.old spare_zones.old spare_tree.old spare_owners.old
+        (mem table.now zones.old tree.old owners.old words.old) number
+        (mem table.now zones.new tree.new owners.new words.new) answers.new result }
 {
     let len = bytes.len();
     if answers.len() < 2 * (len / 33) {
-        return Called::FewWords;
+        return Err(NotServed::FewWords);
     }
     if !hv_calls::fits_spare(zones, tree, owners, spare_zones, spare_tree, spare_owners) {
-        return Called::Spare;
+        return Err(NotServed::Spare);
     }
-    let said = hv_calls::serve_call(
+    Ok(hv_calls::serve_call(
         table,
         zones,
         tree,
@@ -61,6 +62,5 @@ pub fn serve(
         len,
         answers,
         0,
-    );
-    Called::Replied(said)
+    ))
 }

@@ -3,10 +3,12 @@ use mathlib.Core.Path.{◌≡◌, sym, ◌∙◌, ap, subst}
 use mathlib.Core.Bool.{Bool, true}
 use mathlib.Core.List.{List, []}
 use Prim.Native.Nat.{ℕ, zero, suc, ◌+◌, ◌≤◌, ◌<◌, suc-le-suc, zero-le}
+use lib.Dec.{eqb}
 use lib.ListN.{length, get_or}
+use borrow.Author.Tests.{eq-eqb, ne_eqb}
+use Rattle.base.specs.Says.{Says}
 use native.Mathlib.Nat.{not-suc-le-zero, le_of_suc-le-suc}
 use native.Mathlib.Omega.{arith}
-use Rattle.base.specs.Search.{Stops}
 use Rattle.address.specs.declared.Region.{Region}
 use Rattle.config_model.specs.Config.{Config}
 use Rattle.config_table.specs.Holding.{IsRegion}
@@ -16,12 +18,22 @@ use Rattle.set_model.proofs.Tests.{same_equal}
 use Rattle.set_slots.specs.Slots.{slot, regions_in, Lies, SetOk}
 use Rattle.set_slots.proofs.Found.{regions_are}
 use Rattle.set_claims.specs.declared.Bad.{Bad}
-use Rattle.set_claims.specs.Claims.{BadSays}
+use Rattle.std.specs.Prelude.{Err}
+use Rattle.memory_set.specs.declared.NotInOrder.{NotInOrder}
+use Rattle.memory_set.specs.Looks.{CheckSays}
 use Rattle.machine.specs.declared.Which.{Which}
 use Rattle.machine.specs.declared.Which.TheVariants.{Processors, Devices}
 use Rattle.machine.specs.Good.{given}
 use Rattle.zones.specs.Layout.{stride, set_at}
 use Rattle.hv_set_right.specs.Right.{IsGiven, SetRight}
+
+-- ---- an answer that is a test of two numbers
+
+pub says_yes : {P : Type 0} (a b : ℕ) → a ≡ b → P → Says (eqb a b) P
+says_yes {P} a b e p = subst (λ (x : Bool). Says x P) (sym (eq-eqb a b e)) p
+
+pub says_no : {P : Type 0} (a b : ℕ) → (a ≡ b → ⊥) → (P → ⊥) → Says (eqb a b) P
+says_no {P} a b d n = subst (λ (x : Bool). Says x P) (sym (ne_eqb a b d)) n
 
 -- ---- one region
 
@@ -71,20 +83,18 @@ module _ (c : Config) (z : List ℕ) (m flag at slots n here : ℕ) (w : Which) 
   wrong_absent some f h = some (sym (table_length (slot z here) n) ∙ ap (length {A = Region}) (sym regions ∙ (back h).empty f))
 
   -- one whose regions are all given
-  pub right_given : (i : ℕ) → flag ≡ 1 → Stops (IsGiven c m z here) 0 n i → i ≡ n → SetRight c z m w flag at slots
-  right_given i f s q =
+  pub right_given : flag ≡ 1 → ((k : ℕ) → k < n → IsGiven c m z here k) → SetRight c z m w flag at slots
+  right_given f g =
       moved
       (record {
         ok = ok;
-        whole = subst (λ (l : List Region). Every (given c m w) l) (sym regions) (every_table (given c m w) (slot z here) n (λ k l. s.before k (omega arith) (omega arith)));
+        whole = subst (λ (l : List Region). Every (given c m w) l) (sym regions) (every_table (given c m w) (slot z here) n g);
         empty = λ d. absurd (d f);
       })
 
-  -- one with a region that is not
-  pub wrong_given : (i : ℕ) → Stops (IsGiven c m z here) 0 n i → (i ≡ n → ⊥) → SetRight c z m w flag at slots → ⊥
-  wrong_given i s q h =
-      let up = s.high in
-      s.fails (omega (arith, q)) (table_every (given c m w) (slot z here) n i (subst (λ (l : List Region). Every (given c m w) l) regions (back h).whole) (omega (arith, q)))
+  -- and only then
+  pub given_all : SetRight c z m w flag at slots → (k : ℕ) → k < n → IsGiven c m z here k
+  given_all h k l = table_every (given c m w) (slot z here) n k (subst (λ (l : List Region). Every (given c m w) l) regions (back h).whole) l
 
 -- the words of a machine's set are its words
 pub set_inside : (z : List ℕ) (place slots here : ℕ) (w : Which) → here ≡ set_at place slots w → place + stride slots ≤ length z → Lies z here slots
@@ -95,7 +105,8 @@ set_inside z place slots here Devices e l = omega arith
 pub wrong_order : (c : Config) (z : List ℕ) (m flag at slots here : ℕ) (w : Which) → here ≡ at → (SetOk z here slots → ⊥) → SetRight c z m w flag at slots → ⊥
 wrong_order c z m flag at slots here w place n h = n (subst (λ (x : ℕ). SetOk z x slots) (sym place) h.ok)
 
--- one whose words are there, and whose count is too high
-pub wrong_count : (z : List ℕ) (at slots : ℕ) (why : Bad) → Lies z at slots → BadSays z at slots why → SetOk z at slots → ⊥
-wrong_count z at slots Bad.NoSet lies n h = n lies
-wrong_count z at slots Bad.Corrupt lies n h = n.broken h
+-- one whose words are there, and which `check` refuses
+pub not_in_order : (z : List ℕ) (at slots : ℕ) (why : NotInOrder) → Lies z at slots → CheckSays z at slots (Err why) → SetOk z at slots → ⊥
+not_in_order z at slots (NotInOrder.Bad Bad.NoSet) lies n h = n lies
+not_in_order z at slots (NotInOrder.Bad Bad.Corrupt) lies n h = n.broken h
+not_in_order z at slots (NotInOrder.Wrong i) lies n h = n.broken h

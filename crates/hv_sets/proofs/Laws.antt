@@ -4,11 +4,12 @@ use mathlib.Core.Bool.{true, false}
 use mathlib.Core.List.{List}
 use Prim.Native.Nat.{ℕ, min}
 use lib.ListN.{length, get_or}
+use Rattle.std.specs.Prelude.{Ok, Err}
+use Rattle.std.proofs.Common.{Some, None, Ok}
 use native.Mathlib.Omega.{arith}
 use Rattle.base.proofs.Choices.{not_passed}
 use Rattle.address.specs.declared.Region.{Region}
 use Rattle.config_view.specs.Table.{table_config}
-use Rattle.config_table.specs.declared.Given.{Given}
 use Rattle.config_table.specs.Holding.{GivenSays}
 use Rattle.set_model.specs.Sets.{same, meets, covers, any, enter, without}
 use Rattle.set_model.proofs.Tests.{same_is, same_equal}
@@ -18,7 +19,7 @@ use Rattle.set_claims.specs.declared.Bad.{Bad}
 use Rattle.set_claims.specs.declared.NotInserted.{NotInserted}
 use Rattle.set_claims.specs.Claims.{BadSays}
 use Rattle.set_claims.specs.Claims as claims
-use Rattle.memory_set.specs.declared.Translation.{Translation}
+use Rattle.memory_set.specs.declared.NotMapped.{NotMapped}
 use Rattle.memory_set.specs.Looks.{host_in, TranslateSays}
 use Rattle.memory_set_changes.specs.Changes.{WentIn, WentOut}
 use Rattle.machine.specs.declared.Which.{Which}
@@ -88,21 +89,21 @@ module _ (t z : List ℕ) (number : ℕ) (w : Which) (spot : Spot) (is : IsSpot 
   -- ---- a region goes in
 
   module _ (r : Region) where
-    pub is_not_given : (tr o w' : List ℕ) → GivenSays t spot.index r Given.No → Served (mem t z tr o w') number (Insert w r) (mem t z tr o w') (Answer.No Reason.NotGiven)
+    pub is_not_given : (tr o w' : List ℕ) → GivenSays t spot.index r (Ok None) → Served (mem t z tr o w') number (Insert w r) (mem t z tr o w') (Answer.No Reason.NotGiven)
     is_not_given tr o w' g =
         refuses (mem t z tr o w') number (Insert w r) (Answer.No Reason.NotGiven)
         (λ s. of_present (plan_of (mem t z tr o w')) (decode (mem t z tr o w')) number (Insert w r) is.here.machine is.here.present
-        ∙ not_given_lem (plan_of (mem t z tr o w')) (decode (mem t z tr o w')) (machine_of (table_config t) number) w r (none (subst (λ (x : ℕ). GivenSays t x r Given.No) is.index g)))
+        ∙ not_given_lem (plan_of (mem t z tr o w')) (decode (mem t z tr o w')) (machine_of (table_config t) number) w r (none (subst (λ (x : ℕ). GivenSays t x r (Ok None)) is.index g)))
       where
-        none : GivenSays t (machine_of (table_config t) number) r Given.No → any (same r) (givens (table_config t) (machine_of (table_config t) number) w) ≡ false
+        none : GivenSays t (machine_of (table_config t) number) r (Ok None) → any (same r) (givens (table_config t) (machine_of (table_config t) number) w) ≡ false
         none g = table_none (same r) ((table_config t).region (machine_of (table_config t) number)) ((table_config t).count (machine_of (table_config t) number)) (λ i l. not_passed (same r ((table_config t).region (machine_of (table_config t) number) i)) (λ e. g.2 i l (same_is r ((table_config t).region (machine_of (table_config t) number) i) e)))
 
     -- the machine is given it
-    module _ (i : ℕ) (g : GivenSays t spot.index r (Given.At i)) where
+    module _ (i : ℕ) (g : GivenSays t spot.index r (Ok (Some i))) where
       is_given : any (same r) (givens (table_config t) (machine_of (table_config t) number) w) ≡ true
-      is_given = some (subst (λ (x : ℕ). GivenSays t x r (Given.At i)) is.index g)
+      is_given = some (subst (λ (x : ℕ). GivenSays t x r (Ok (Some i))) is.index g)
         where
-          some : GivenSays t (machine_of (table_config t) number) r (Given.At i) → any (same r) (givens (table_config t) (machine_of (table_config t) number) w) ≡ true
+          some : GivenSays t (machine_of (table_config t) number) r (Ok (Some i)) → any (same r) (givens (table_config t) (machine_of (table_config t) number) w) ≡ true
           some g = table_some (same r) ((table_config t).region (machine_of (table_config t) number)) ((table_config t).count (machine_of (table_config t) number)) i g.1.is.region (same_equal r ((table_config t).region (machine_of (table_config t) number) i) g.1.is.is)
 
       pub not_inserted : (tr o w' : List ℕ) (why : NotInserted) → claims.Refused z (set_place z (table_config t).machines (machine_of (table_config t) number) w) (slots_in z (table_config t).machines) r why → Served (mem t z tr o w') number (Insert w r) (mem t z tr o w') (of_not_inserted why)
@@ -139,7 +140,7 @@ module _ (t z : List ℕ) (number : ℕ) (w : Which) (spot : Spot) (is : IsSpot 
 
   -- ---- a guest address
 
-  pub translated : (tr o w' : List ℕ) (addr h : ℕ) → TranslateSays z (set_place z (table_config t).machines (machine_of (table_config t) number) w) (slots_in z (table_config t).machines) addr (Translation.Host h) → Served (mem t z tr o w') number (Translate w addr) (mem t z tr o w') (Answer.Address h)
+  pub translated : (tr o w' : List ℕ) (addr h : ℕ) → TranslateSays z (set_place z (table_config t).machines (machine_of (table_config t) number) w) (slots_in z (table_config t).machines) addr (Ok h) → Served (mem t z tr o w') number (Translate w addr) (mem t z tr o w') (Answer.Address h)
   translated tr o w' addr h d =
       record {
         kept = λ r. absurd r;
@@ -150,7 +151,7 @@ module _ (t z : List ℕ) (number : ℕ) (w : Which) (spot : Spot) (is : IsSpot 
         plan = λ s. refl;
       }
 
-  pub untranslated : (tr o w' : List ℕ) (addr : ℕ) → TranslateSays z (set_place z (table_config t).machines (machine_of (table_config t) number) w) (slots_in z (table_config t).machines) addr Translation.NotMapped → Served (mem t z tr o w') number (Translate w addr) (mem t z tr o w') (Answer.No Reason.NotMapped)
+  pub untranslated : (tr o w' : List ℕ) (addr : ℕ) → TranslateSays z (set_place z (table_config t).machines (machine_of (table_config t) number) w) (slots_in z (table_config t).machines) addr (Err NotMapped.NoRegion) → Served (mem t z tr o w') number (Translate w addr) (mem t z tr o w') (Answer.No Reason.NotMapped)
   untranslated tr o w' addr d =
       refuses (mem t z tr o w') number (Translate w addr) (Answer.No Reason.NotMapped)
       (λ s. of_present (plan_of (mem t z tr o w')) (decode (mem t z tr o w')) number (Translate w addr) is.here.machine is.here.present

@@ -1,21 +1,17 @@
 -- What words mean that are all 0. Assumes nothing.
-use mathlib.Core.Path.{◌≡◌}
+use mathlib.Core.Path.{◌≡◌, ap, ◌∙◌}
 use mathlib.Core.List.{List}
 use Prim.Native.Nat.{ℕ, ◌+◌, ◌*◌, ◌/◌, ◌%◌, ◌≤◌, ◌<◌}
-use lib.ListN.{length, get_or, get_or-eq_default}
+use lib.ListN.{length, get_or, get_or-eq_default, replicate}
 use native.Mathlib.Decide.{dec_lt}
 use native.Mathlib.Omega.{arith}
-use Rattle.base.specs.Ranges.{Emptied}
+use Rattle.base.proofs.Ranges.{zero_word}
 use Rattle.contents.specs.Contents.{frames_in, Wiped}
 use Rattle.hv_start.specs.Starting.{Zeros}
 
--- all words up to the last are 0, and there are none behind it
-pub all_zero : (z z' : List ℕ) (k : ℕ) → length z' ≤ k → Emptied z 0 k z' → Zeros z z'
-all_zero z z' k l e = record { long = e.long; zero = λ j. go j (dec_lt j k) }
-  where
-    go : (j : ℕ) → Dec (j < k) → get_or z' j 0 ≡ 0
-    go j (yes h) = e.inside j (omega arith) h
-    go j (no h) = get_or-eq_default z' 0 (omega (arith, h))
+-- as many words that are all 0
+pub zeros : (z z' : List ℕ) → length z' ≡ length z → z' ≡ replicate (length z) 0 → Zeros z z'
+zeros z z' l e = record { long = l; zero = λ j. ap (λ (x : List ℕ). get_or x j 0) e ∙ zero_word (length z) j }
 
 -- the words of whole frames that are wiped
 pub frames_zero : (w w' : List ℕ) → length w % 512 ≡ 0 → Wiped w 0 (frames_in w) w' → (j : ℕ) → get_or w' j 0 ≡ 0

@@ -3,21 +3,17 @@ use mathlib.Core.Path.{◌≡◌, ◌∙◌, ap, subst}
 use mathlib.Core.List.{List}
 use Prim.Native.Nat.{ℕ, ◌≤◌, ◌<◌}
 use lib.ListN.{length}
+use Rattle.std.proofs.Common.{Some}
 use native.Mathlib.Decide.{dec_lt}
 use native.Mathlib.Omega.{arith}
-use Rattle.base.specs.Search.{Stops}
 use Rattle.address.specs.declared.Region.{Region}
-use Rattle.config_model.specs.Config.{Config}
 use Rattle.config_bytes.specs.Fields.{config_of, machines, count}
-use Rattle.config_view.specs.View.{viewed, InView}
-use Rattle.config_view.proofs.Laws.{view_bytes}
+use Rattle.config_pairs.specs.Pairs.{FirstIn}
 use Rattle.config.specs.Checking.{IsRight}
-use Rattle.config.proofs.Laws.{readable_some, bytes_in_view}
 use Rattle.bitmap_tree.specs.Tree.{cap}
 use Rattle.contents.specs.Contents.{frames_in, Backed}
 use Rattle.claims.specs.declared.Unfit.{Unfit}
 use Rattle.claims.specs.Fits.{Fits, Misfit}
-use Rattle.zones.specs.declared.Shape.{Shape}
 use Rattle.zones.specs.Layout.{slots_in, Shaped, ShapeSays}
 use Rattle.hv_start.specs.Starting.{Right, Roomy, Lent, Framed, Crowded, UnfitSays}
 
@@ -29,52 +25,37 @@ module _ (s : List ℕ) (n : ℕ) (r : IsRight s n) where
   pub few_machines : n ≤ 64
   few_machines = let e = r.number in let l = r.means.readable.few in omega arith
 
-  pub seen : (none : List ℕ) → InView s none
-  seen none = bytes_in_view s none r.means.readable
-
-  view : (none : List ℕ) → viewed s none ≡ config_of s
-  view none = view_bytes s none (readable_some s r.means.readable)
-
   -- ---- the machines' words
 
   pub wrong_zones : (z : List ℕ) → (Shaped z n → ⊥) → Shaped z (machines s) → ⊥
   wrong_zones z f h = f (rw r.number h)
 
-  module _ (none z : List ℕ) (slots m : ℕ) (x : ShapeSays z n (Shape.Slots slots)) (st : Stops (λ k. (viewed s none).count k ≤ slots) 0 (viewed s none).machines m) where
+  module _ (z : List ℕ) (slots : ℕ) (x : ShapeSays z n (Some slots)) where
     slots_are : slots ≡ slots_in z (machines s)
     slots_are = x.1 ∙ ap (slots_in z) r.number
 
     shaped : Shaped z (machines s)
     shaped = subst (Shaped z) r.number x.0
 
-    stops : Stops (λ k. count s k ≤ slots) 0 (machines s) m
-    stops = subst (λ (c : Config). Stops (λ k. c.count k ≤ slots) 0 c.machines m) (view none) st
-
-    pub crowded : m < n → Crowded s z m
-    crowded l =
+    pub crowded : (m : ℕ) → FirstIn (λ k. count s k ≤ slots) (machines s) m → Crowded s z m
+    crowded m h =
         record {
           shaped = shaped;
-          machine = inside;
+          machine = h.place;
           more = go (dec_lt slots (count s m));
-          first = λ k h. let e = slots_are in let f = stops.before k (omega arith) h in omega arith;
+          first = λ k l. let e = slots_are in let f = h.before k l in omega arith;
         }
       where
-        inside : m < machines s
-        inside = let e = r.number in omega arith
-
         go : Dec (slots < count s m) → slots_in z (machines s) < count s m
-        go (yes h) = let e = slots_are in omega arith
-        go (no h) = absurd (stops.fails inside (omega (arith, h)))
+        go (yes l) = let e = slots_are in omega arith
+        go (no l) = absurd (h.fails (omega (arith, l)))
 
-    pub roomy : n ≤ m → Roomy s z
-    roomy l = record { shaped = shaped; slots = λ k h. let e = slots_are in let g = r.number in let f = stops.before k (omega arith) (omega arith) in omega arith }
+    pub roomy : ((k : ℕ) → k < machines s → count s k ≤ slots) → Roomy s z
+    roomy h = record { shaped = shaped; slots = λ k l. let e = slots_are in let f = h k l in omega arith }
 
   -- ---- the tree, the owners and the frames' words
 
-  module _ (none : List ℕ) (pool : Region) (e : pool ≡ (viewed s none).pool) where
-    pool_is : pool ≡ (config_of s).pool
-    pool_is = e ∙ ap (λ (c : Config). c.pool) (view none)
-
+  module _ (pool : Region) (pool_is : pool ≡ (config_of s).pool) where
     pub host_is : pool.host ≡ (config_of s).pool.host
     host_is = ap (λ (x : Region). x.host) pool_is
 

@@ -1,11 +1,12 @@
 -- That the start is made. Assumes nothing.
 use mathlib.Core.Path.{◌≡◌, sym, ◌∙◌, ap, subst}
 use mathlib.Core.List.{List}
+use Rattle.std.specs.Prelude.{⊤, Result, Ok, Err}
 use Prim.Native.Nat.{ℕ, ◌/◌}
 use native.Mathlib.Omega.{arith}
 use Rattle.config_model.specs.Config.{Same}
 use Rattle.config_bytes.specs.Fields.{config_of, machines}
-use Rattle.config.specs.declared.Loaded.{Loaded}
+use Rattle.config.specs.declared.NotLoaded.{NotLoaded}
 use Rattle.config.specs.Loading.{WasLoaded, LoadSays}
 use Rattle.config.specs.Tables.{Writable}
 use Rattle.config_theorems.proofs.Verdicts.{no_reason}
@@ -14,7 +15,7 @@ use Rattle.owners.specs.States.{state}
 use Rattle.contents.specs.Contents.{frames_in, Clean}
 use Rattle.claims.specs.declared.Unfit.{Unfit}
 use Rattle.claims.specs.Fits.{Misfit}
-use Rattle.frames_pool.specs.declared.Begun.{Begun}
+use Rattle.frames_pool.specs.declared.NotBegun.{NotBegun}
 use Rattle.frames_pool.specs.Pool.{Init, InitSays}
 use Rattle.machine.specs.Good.{PlanOk}
 use Rattle.zones.specs.Layout.{slots_in, Shaped}
@@ -22,7 +23,6 @@ use Rattle.hv_state.specs.Memory.{Mem, config_in, slots_of, plan_of}
 use Rattle.hv_state.proofs.Zones.{slots_kept, shaped_kept}
 use Rattle.hv_state.proofs.Beginning.{Begins, means_start, begins_sound}
 use Rattle.hv_start.specs.Starting.{Right, Framed, Ready, Zeros, WasStarted, MayStartSays}
-use Rattle.hv_start.specs.declared.MayStart.{MayStart}
 use Rattle.hv_start.proofs.Empty.{frames_zero}
 
 -- ---- what was found right is not refused afterwards
@@ -32,10 +32,10 @@ record IsLoaded (s t t' : List ℕ) : Type 0 where
   number : ℕ
   was : WasLoaded s t number t'
 
-loads : (s t t' : List ℕ) (r : Loaded) → Right s t → LoadSays s t t' r → IsLoaded s t t'
-loads s t t' (Loaded.Done n) h x = record { number = n; was = x }
-loads s t t' (Loaded.Refused why) h x = absurd (no_reason s why h.means h.ok x.2)
-loads s t t' Loaded.NoTable h x = absurd (x.1 h.long)
+loads : (s t t' : List ℕ) (r : Result ℕ NotLoaded) → Right s t → LoadSays s t t' r → IsLoaded s t t'
+loads s t t' (Ok n) h x = record { number = n; was = x }
+loads s t t' (Err (NotLoaded.Refused why)) h x = absurd (no_reason s why h.means h.ok x.2)
+loads s t t' (Err NotLoaded.NoTable) h x = absurd (x.1 h.long)
 
 -- and the frames are
 module _ (s a t o w t' o' w' : List ℕ) (base : ℕ) (h : Right s a) (f : Framed s t o w) (e : base ≡ (config_of s).pool.host) where
@@ -44,11 +44,11 @@ module _ (s a t o w t' o' w' : List ℕ) (base : ℕ) (h : Right s a) (f : Frame
   fits_not Unfit.Unmatched x = x.1 f.lent.matched.bytes
   fits_not Unfit.BadBase x = x.1 (rw e h.ok.pool_valid.on.host_start)
 
-  begins : (r : Begun) → InitSays base t o w t' o' w' r → Init (config_of s).pool.host t o w t' o' w'
-  begins Begun.Done x = subst (λ (k : ℕ). Init k t o w t' o' w') e x
-  begins Begun.Unbacked x = absurd (x.1 f.lent.backed)
-  begins Begun.TooHigh x = absurd (let l = x.2 in let v = h.ok.pool_valid.host_end in let u = f.frames in omega arith)
-  begins (Begun.Unfit why) x = absurd (fits_not why x.2)
+  begins : (r : Result ⊤ NotBegun) → InitSays base t o w t' o' w' r → Init (config_of s).pool.host t o w t' o' w'
+  begins (Ok _) x = subst (λ (k : ℕ). Init k t o w t' o' w') e x
+  begins (Err NotBegun.Unbacked) x = absurd (x.1 f.lent.backed)
+  begins (Err NotBegun.TooHigh) x = absurd (let l = x.2 in let v = h.ok.pool_valid.host_end in let u = f.frames in omega arith)
+  begins (Err (NotBegun.Unfit why)) x = absurd (fits_not why x.2)
 
 -- ---- the memories afterwards
 
@@ -103,7 +103,7 @@ module _ (s : List ℕ) (b b' : Mem) (small : Bytes s) (r : Ready s b) (l : IsLo
       }
 
 -- from what was found right, and what the three that write the memories answered
-pub starts : (s : List ℕ) (b b' : Mem) (base : ℕ) (l : Loaded) (i : Begun) → Bytes s → MayStartSays s b (MayStart.From base) → LoadSays s b.table b'.table l → Zeros b.zones b'.zones → InitSays base b.tree b.owners b.words b'.tree b'.owners b'.words i → WasStarted s b b'
+pub starts : (s : List ℕ) (b b' : Mem) (base : ℕ) (l : Result ℕ NotLoaded) (i : Result ⊤ NotBegun) → Bytes s → MayStartSays s b (Ok base) → LoadSays s b.table b'.table l → Zeros b.zones b'.zones → InitSays base b.tree b.owners b.words b'.tree b'.owners b'.words i → WasStarted s b b'
 starts s b b' base l i small r x e y =
     was_started s b b' small r.0 (loads s b.table b'.table l r.0.right x) e
     (begins s b.table b.tree b.owners b.words b'.tree b'.owners b'.words base r.0.right r.0.frames r.1 i y)

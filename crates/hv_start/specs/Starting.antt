@@ -1,6 +1,6 @@
 -- What `start` answers: s are the bytes, b the memories before, and b' after. Every refusal has b' ≡ b, and what was met before it.
 -- Assumes nothing.
-use Rattle.std.specs.Prelude.{◌≡◌, List, ℕ, ◌≤◌, ◌<◌, length, get_or}
+use Rattle.std.specs.Prelude.{◌≡◌, List, ℕ, ◌≤◌, ◌<◌, length, get_or, Result, Ok, Err}
 use Rattle.config_model.specs.Config.{ConfigOk}
 use Rattle.config_bytes.specs.Fields.{config_of, machines, count, Means}
 use Rattle.config_view.specs.Table.{Table}
@@ -15,10 +15,6 @@ use Rattle.hv_state.specs.Memory.{Mem, plan_of, decode, Sound}
 use Rattle.hv_start.specs.declared.BadZones.{BadZones}
 use Rattle.hv_start.specs.declared.BadFrames.{BadFrames}
 use Rattle.hv_start.specs.declared.NotStarted.{NotStarted}
-use Rattle.hv_start.specs.declared.Started.{Started}
-use Rattle.hv_start.specs.declared.Room.{Room}
-use Rattle.hv_start.specs.declared.Frames.{Frames}
-use Rattle.hv_start.specs.declared.MayStart.{MayStart}
 
 -- ---- what must be met, in this order
 
@@ -53,6 +49,7 @@ pub record Crowded (s z : List ℕ) (m : ℕ) : Type 0 where
   pub more : slots_in z (machines s) < count s m
   pub first : (k : ℕ) → k < m → count s k ≤ slots_in z (machines s)
 
+-- why the machines' words are not right
 abbrev pub BadZonesSays : List ℕ → List ℕ → BadZones → Type 0
 BadZonesSays s z BadZones.Wrong = Shaped z (machines s) → ⊥
 BadZonesSays s z (BadZones.FewSlots m) = Crowded s z m
@@ -63,6 +60,7 @@ UnfitSays t o Unfit.NotFull = Full (length t) → ⊥
 UnfitSays t o Unfit.Unmatched = Full (length t) × (length o ≡ cap t → ⊥)
 UnfitSays t o Unfit.BadBase = ⊥
 
+-- why the frames' memories are not right
 abbrev pub BadFramesSays : List ℕ → List ℕ → List ℕ → List ℕ → BadFrames → Type 0
 BadFramesSays s t o w (BadFrames.Unfit why) = UnfitSays t o why
 BadFramesSays s t o w BadFrames.Unbacked = Matched t o × (Backed o w → ⊥)
@@ -90,19 +88,22 @@ pub record WasStarted (s : List ℕ) (b b' : Mem) : Type 0 where
   pub owners : length b'.owners ≡ length b.owners
   pub words : length b'.words ≡ length b.words
 
-abbrev pub StartSays : List ℕ → Mem → Mem → Started → Type 0
-StartSays s b b' Started.Done = WasStarted s b b'
-StartSays s b b' (Started.No why) = (b' ≡ b) × NotStartedSays s b why
+-- what a start does, or why it does nothing
+abbrev pub StartSays : List ℕ → Mem → Mem → Result Unit NotStarted → Type 0
+StartSays s b b' (Ok _) = WasStarted s b b'
+StartSays s b b' (Err why) = (b' ≡ b) × NotStartedSays s b why
 
 -- ---- the steps
 
-abbrev pub RoomSays : List ℕ → List ℕ → Room → Type 0
-RoomSays s z Room.Yes = Roomy s z
-RoomSays s z (Room.No why) = BadZonesSays s z why
+-- whether the machines' words have room
+abbrev pub RoomSays : List ℕ → List ℕ → Result Unit BadZones → Type 0
+RoomSays s z (Ok _) = Roomy s z
+RoomSays s z (Err why) = BadZonesSays s z why
 
-abbrev pub FramesSays : List ℕ → List ℕ → List ℕ → List ℕ → Frames → Type 0
-FramesSays s t o w (Frames.From base) = Framed s t o w × (base ≡ (config_of s).pool.host)
-FramesSays s t o w (Frames.No why) = BadFramesSays s t o w why
+-- where the allocator's frames begin, or why the memories are not theirs
+abbrev pub FramesSays : List ℕ → List ℕ → List ℕ → List ℕ → Result ℕ BadFrames → Type 0
+FramesSays s t o w (Ok base) = Framed s t o w × (base ≡ (config_of s).pool.host)
+FramesSays s t o w (Err why) = BadFramesSays s t o w why
 
 -- all is as it must be
 pub record Ready (s : List ℕ) (b : Mem) : Type 0 where
@@ -110,9 +111,10 @@ pub record Ready (s : List ℕ) (b : Mem) : Type 0 where
   pub room : Roomy s b.zones
   pub frames : Framed s b.tree b.owners b.words
 
-abbrev pub MayStartSays : List ℕ → Mem → MayStart → Type 0
-MayStartSays s b (MayStart.From base) = Ready s b × (base ≡ (config_of s).pool.host)
-MayStartSays s b (MayStart.No why) = NotStartedSays s b why
+-- where the allocator's frames begin, or what is not as it must be
+abbrev pub MayStartSays : List ℕ → Mem → Result ℕ NotStarted → Type 0
+MayStartSays s b (Ok base) = Ready s b × (base ≡ (config_of s).pool.host)
+MayStartSays s b (Err why) = NotStartedSays s b why
 
 -- as many words, all of them 0
 pub record Zeros (z z' : List ℕ) : Type 0 where

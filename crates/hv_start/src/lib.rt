@@ -7,17 +7,19 @@
 // machine is there and every set is empty, and the frames with words are free and cleared.
 #![tactic(auto)]
 
+ghost use Rattle.std.specs.Prelude.{◌≡◌};
 ghost use Rattle.config.specs.Checking.{IsRight};
 ghost use Rattle.hv_state.specs.Serving.{mem};
-ghost use Rattle.hv_start.specs.Starting.{Zeros, RoomSays, FramesSays, MayStartSays, StartSays};
+ghost use Rattle.hv_start.specs.Starting.{RoomSays, FramesSays, MayStartSays, StartSays};
+ghost use Rattle.hv_start.specs.declared.BadFrames.{BadFrames};
+ghost use Rattle.hv_start.specs.declared.NotStarted.{NotStarted};
 
-use claims::{Fit, Unfit};
-use config::Verdict;
+use claims::Unfit;
 use config_rules::Reason;
-use zones::Shape;
+use config_view::View;
 
 // Why the machines' words are not those of a configuration.
-#[derive(Drop)]
+#[derive(Clone, Copy, Debug, PartialEq, Eq)]
 pub enum BadZones {
     // They are not as many as any number of slots gives its machines.
     Wrong,
@@ -26,7 +28,7 @@ pub enum BadZones {
 }
 
 // Why the tree, the owners and the frames' words are not those of a configuration.
-#[derive(Drop)]
+#[derive(Clone, Copy, Debug, PartialEq, Eq)]
 pub enum BadFrames {
     Unfit(Unfit),
     // The words are not those of whole frames, or of more than there are.
@@ -38,7 +40,7 @@ pub enum BadFrames {
 }
 
 // Why nothing was started.
-#[derive(Drop)]
+#[derive(Clone, Copy, Debug, PartialEq, Eq)]
 pub enum NotStarted {
     // The words are not as many as a table has.
     NoTable,
@@ -47,78 +49,79 @@ pub enum NotStarted {
     Frames(BadFrames),
 }
 
-// What became of memories that were to be a monitor's.
-#[derive(Drop)]
-pub enum Started {
-    Done,
-    No(NotStarted),
+impl From<Unfit> for BadFrames {
+    ghost from_gives = { λ why e. e ≡ BadFrames.Unfit why };
+
+    fn from(why: Unfit) -> BadFrames {
+        Self::Unfit(why)
+    }
 }
 
-// Whether the machines' words have room.
-#[derive(Drop)]
-enum Room {
-    Yes,
-    No(BadZones),
+impl From<Reason> for NotStarted {
+    ghost from_gives = { λ why e. e ≡ NotStarted.Config why };
+
+    fn from(why: Reason) -> NotStarted {
+        Self::Config(why)
+    }
 }
 
-// Where the allocator's frames begin, if the memories are theirs.
-#[derive(Drop)]
-enum Frames {
-    From(usize),
-    No(BadFrames),
+impl From<BadZones> for NotStarted {
+    ghost from_gives = { λ why e. e ≡ NotStarted.Zones why };
+
+    fn from(why: BadZones) -> NotStarted {
+        Self::Zones(why)
+    }
 }
 
-// Where the allocator's frames begin, if all is as it must be.
-#[derive(Drop)]
-enum MayStart {
-    From(usize),
-    No(NotStarted),
+impl From<BadFrames> for NotStarted {
+    ghost from_gives = { λ why e. e ≡ NotStarted.Frames why };
+
+    fn from(why: BadFrames) -> NotStarted {
+        Self::Frames(why)
+    }
 }
 
 // Whether the machines' words are exactly those of the n machines, with room for what each is given.
-fn zones_fit(bytes: &[u8], zones: &[u64], n: usize) -> Room
+fn zones_fit(bytes: &[u8], zones: &[u64], n: usize) -> Result<(), BadZones>
     requires { IsRight bytes.now n }
     ensures { RoomSays bytes.now zones.now result }
 {
-    match zones::measure(zones, n) {
-        Shape::Wrong => Room::No(BadZones::Wrong),
-        Shape::Slots(slots) => {
-            let none = [0u64; 1];
-            let m = start_sizes::first_crowded(bytes, &none, slots);
-            if m < n {
-                return Room::No(BadZones::FewSlots(m));
-            }
-            Room::Yes
-        }
+    let Some(slots) = zones::measure(zones, n) else {
+        return Err(BadZones::Wrong);
+    };
+    match start_sizes::first_crowded(&View::Bytes(bytes), slots) {
+        Some(m) => Err(BadZones::FewSlots(m)),
+        None => Ok(()),
     }
 }
 
-// Whether the tree, the owners and the frames' words are those of the allocator's region.
-fn frames_fit(bytes: &[u8], tree: &[u16], owners: &[u8], words: &[u64], n: usize) -> Frames
+// Where the allocator's frames begin, if the tree, the owners and the frames' words are those of its region.
+#[tactic(auto, using(crate::proofs::Sizes::unfit))]
+fn frames_fit(
+    bytes: &[u8],
+    tree: &[u16],
+    owners: &[u8],
+    words: &[u64],
+    n: usize,
+) -> Result<usize, BadFrames>
     requires { IsRight bytes.now n }
     ensures { FramesSays bytes.now tree.now owners.now words.now result }
 {
-    let none = [0u64; 1];
-    let pool = start_sizes::pool_of(bytes, &none);
-    match claims::fitting(tree, owners, pool.host as usize) {
-        Fit::No(why) => {
-            return Frames::No(BadFrames::Unfit(why));
-        }
-        Fit::Yes => {}
-    }
+    let pool = View::Bytes(bytes).pool();
+    claims::fitting(tree, owners, pool.host as usize)?;
     if !contents::is_backed(owners, words) {
-        return Frames::No(BadFrames::Unbacked);
+        return Err(BadFrames::Unbacked);
     }
     if (owners.len() as u64) < pool.pages {
-        return Frames::No(BadFrames::FewFrames);
+        return Err(BadFrames::FewFrames);
     }
     if pool.pages < (words.len() / 512) as u64 {
-        return Frames::No(BadFrames::FewPages);
+        return Err(BadFrames::FewPages);
     }
-    Frames::From(pool.host as usize)
+    Ok(pool.host as usize)
 }
 
-// Whether the configuration and all lengths are as they must be.
+// Where the allocator's frames begin, if the configuration and all lengths are as they must be.
 fn may_start(
     bytes: &[u8],
     table: &[u64],
@@ -126,30 +129,15 @@ fn may_start(
     tree: &[u16],
     owners: &[u8],
     words: &[u64],
-) -> MayStart
+) -> Result<usize, NotStarted>
     ensures { MayStartSays bytes.now (mem table.now zones.now tree.now owners.now words.now) result }
 {
     if table.len() != 8325 {
-        return MayStart::No(NotStarted::NoTable);
+        return Err(NotStarted::NoTable);
     }
-    match config::check(bytes) {
-        Verdict::Refused(why) => MayStart::No(NotStarted::Config(why)),
-        Verdict::Accepted(n) => match zones_fit(bytes, zones, n) {
-            Room::No(why) => MayStart::No(NotStarted::Zones(why)),
-            Room::Yes => match frames_fit(bytes, tree, owners, words, n) {
-                Frames::No(why) => MayStart::No(NotStarted::Frames(why)),
-                Frames::From(base) => MayStart::From(base),
-            },
-        },
-    }
-}
-
-// Makes every word 0.
-fn clear(zones: &mut [u64])
-    ensures { Zeros zones.old zones.new }
-{
-    let n = zones.len();
-    base::zero(zones, 0, n);
+    let n = config::check(bytes)?;
+    zones_fit(bytes, zones, n)?;
+    Ok(frames_fit(bytes, tree, owners, words, n)?)
 }
 
 // Starts a monitor: whatever the memories held, they are those of the configuration, with no machine.
@@ -160,16 +148,13 @@ pub fn start(
     tree: &mut [u16],
     owners: &mut [u8],
     words: &mut [u64],
-) -> Started
+) -> Result<(), NotStarted>
     ensures { StartSays bytes.now (mem table.old zones.old tree.old owners.old words.old) (mem table.new zones.new tree.new owners.new words.new) result }
 {
-    match may_start(bytes, table, zones, tree, owners, words) {
-        MayStart::No(why) => Started::No(why),
-        MayStart::From(base) => {
-            config::load(bytes, table);
-            clear(zones);
-            frames_pool::init(tree, owners, words, base);
-            Started::Done
-        }
-    }
+    let base = may_start(bytes, table, zones, tree, owners, words)?;
+    // The load and the beginning below succeed, by what `may_start` found.
+    let _ = config::load(bytes, table);
+    zones.fill(0);
+    let _ = frames_pool::init(tree, owners, words, base);
+    Ok(())
 }

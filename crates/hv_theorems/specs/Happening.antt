@@ -14,7 +14,8 @@ wrote b j v = mem b.table b.zones b.tree b.owners (set b.words j v)
 pub data Becomes : Mem → List Event → Mem → Type 0 where
   Stays : (b : Mem) → Becomes b [] b
   Serves : (b c d : Mem) (xs : List Event) (number : ℕ) (q : Call) (r : Reply) → CallServed b number q c r → Becomes c xs d → Becomes b (Asks number q ∷ xs) d
-  Writes : (b d : Mem) (xs : List Event) (m j v : ℕ) → (decode b).present m ≡ true → (decode b).frame (j / 512) ≡ Owned m → Becomes (wrote b j v) xs d → Becomes b (Event.Writes m j v ∷ xs) d
+  Writes : (b d : Mem) (xs : List Event) (m j v : ℕ) → (decode b).present m ≡ true → (decode b).frame (j / 512) ≡ Owned m
+      → Becomes (wrote b j v) xs d → Becomes b (Event.Writes m j v ∷ xs) d
 
 -- d is sound, has the plan of b, and means what the events make of what b means
 pub record Reached (b : Mem) (xs : List Event) (d : Mem) : Type 0 where

@@ -2,6 +2,7 @@
 use mathlib.Core.Path.{◌≡◌, refl, sym, ◌∙◌, ap, subst}
 use mathlib.Core.Bool.{Bool, true, false}
 use mathlib.Core.List.{List, []}
+use Rattle.std.specs.Prelude.{⊤, Result, Ok, Err, is_ok}
 use Prim.Native.Nat.{ℕ, ◌+◌, ◌*◌, ◌/◌, ◌%◌, ◌≤◌, ◌<◌, min}
 use lib.Dec.{eqb}
 use lib.ListN.{get_or}
@@ -19,7 +20,8 @@ use Rattle.owners.proofs.States.{client_not_reserved}
 use Rattle.contents.specs.Contents.{frames_in, Clean}
 use Rattle.claims.specs.declared.Unfit.{Unfit}
 use Rattle.claims.specs.Fits.{Misfit}
-use Rattle.frames_pool.specs.Pool.{Released, Homeless}
+use Rattle.frames_pool.specs.declared.NotLeft.{NotLeft}
+use Rattle.frames_pool.specs.Pool.{Released, Homeless, ReleaseSays}
 use Rattle.machine.specs.declared.Which.{Which}
 use Rattle.machine.specs.declared.Request.TheVariants.{RemoveZoneWhole}
 use Rattle.machine.specs.declared.Answer.{Answer}
@@ -48,6 +50,14 @@ unfit_not base t o w Unfit.BadBase d c = d.1 c.accounted.aligned
 -- and no client owns a frame without contents
 pub homeless_not : (base : ℕ) (t o w : List ℕ) (c : ℕ) → Homeless base t o w c → Clean base t o w → ⊥
 homeless_not base t o w c d k = client_not_reserved c (sym d.mine ∙ k.beyond d.frame d.past)
+
+-- whether a client's frames were released
+pub freed_all : (base : ℕ) (t o w : List ℕ) (c : ℕ) (t' o' w' : List ℕ) (r : Result ⊤ NotLeft) → ReleaseSays base t o w c t' o' w' r → FreedSays base t o w c t' o' w' (is_ok r)
+freed_all base t o w c t' o' w' (Ok _) h = h
+freed_all base t o w c t' o' w' (Err NotLeft.Unbacked) h = (h.0, λ l k. h.1 k.backed)
+freed_all base t o w c t' o' w' (Err NotLeft.Corrupt) h = (h.0, λ l k. homeless_not base t o w c h.1 k)
+freed_all base t o w c t' o' w' (Err NotLeft.NoClient) h = (h.0, λ l k. absurd (omega (arith, l, h.2)))
+freed_all base t o w c t' o' w' (Err (NotLeft.Unfit why)) h = (h.0, λ l k. unfit_not base t o w why h.2 k)
 
 -- ---- a machine's words are all 0
 

@@ -11,21 +11,13 @@ ghost use Rattle.machine.specs.declared.Request.TheVariants.{RemoveZoneWhole};
 ghost use Rattle.hv_state.specs.Serving.{Served, mem};
 ghost use Rattle.hv_whole.specs.Freeing.{FreedSays};
 
-use frames_pool::Left;
-use hv_asker::AskingClient;
 use machine::Answer;
 
 // Makes all frames of the client c free and clears them, unless the memories are not in order.
 fn free_all(tree: &mut [u16], owners: &mut [u8], words: &mut [u64], base: usize, c: u8) -> bool
     ensures { FreedSays base tree.old owners.old words.old c tree.new owners.new words.new result }
 {
-    match frames_pool::release_all(tree, owners, words, base, c) {
-        Left::Done => true,
-        Left::Unbacked => false,
-        Left::Corrupt => false,
-        Left::NoClient => false,
-        Left::Unfit(_) => false,
-    }
+    frames_pool::release_all(tree, owners, words, base, c).is_ok()
 }
 
 // Removes the machine with all its regions and frames, which are cleared.
@@ -40,9 +32,8 @@ pub fn remove_zone_whole(
     ensures { Served (mem table.now zones.old tree.old owners.old words.old) number RemoveZoneWhole (mem table.now zones.new tree.new owners.new words.new) result }
 {
     match hv_asker::client_that_asks(table, zones, number) {
-        AskingClient::Corrupt => Answer::Corrupt,
-        AskingClient::No(why) => Answer::No(why),
-        AskingClient::Is(c) => {
+        Err(why) => Answer::from(why),
+        Ok(c) => {
             if !free_all(tree, owners, words, c.base, c.client) {
                 return Answer::Corrupt;
             }

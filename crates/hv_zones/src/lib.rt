@@ -12,9 +12,7 @@ ghost use Rattle.std.specs.Prelude.{List, ℕ};
 ghost use Rattle.machine.specs.declared.Request.TheVariants.{AddZone, RemoveZone};
 ghost use Rattle.hv_state.specs.Serving.{Served, mem};
 
-use hv_asker::Asker;
-use hv_empty::Told;
-use machine::{Answer, Reason};
+use machine::{Answer, Reason, Refusal};
 use zones::Located;
 
 // Adds the machine.
@@ -22,12 +20,10 @@ pub fn add_zone(table: &[u64], zones: &mut [u64], number: u64) -> Answer
     ensures { (t o w : List ℕ) → Served (mem table.now zones.old t o w) number AddZone (mem table.now zones.new t o w) result }
 {
     match zones::locate(table, zones, number) {
-        Located::Corrupt => Answer::Corrupt,
-        Located::NoMachine => Answer::No(Reason::NoMachine),
-        Located::Here(_) => Answer::No(Reason::Present),
-        Located::Away(zone) => {
-            let place = zone.place;
-            zones[place] = 1;
+        Err(why) => Answer::from(Refusal::from(why)),
+        Ok(Located::Here(_)) => Answer::No(Reason::Present),
+        Ok(Located::Away(zone)) => {
+            zones[zone.place] = 1;
             Answer::Done
         }
     }
@@ -43,21 +39,20 @@ pub fn remove_zone(
 ) -> Answer
     ensures { (w : List ℕ) → Served (mem table.now zones.old tree.now owners.now w) number RemoveZone (mem table.now zones.new tree.now owners.now w) result }
 {
-    match hv_asker::who_asks(table, zones, number) {
-        Asker::Corrupt => Answer::Corrupt,
-        Asker::No(why) => Answer::No(why),
-        Asker::Is(zone) => match hv_empty::has_no_region(zones, zone.place, zone.slots) {
-            Told::Corrupt => Answer::Corrupt,
-            Told::No => Answer::No(Reason::NotEmpty),
-            Told::Yes => match hv_empty::has_no_frame(tree, owners, zone.index as u8) {
-                Told::Corrupt => Answer::Corrupt,
-                Told::No => Answer::No(Reason::NotEmpty),
-                Told::Yes => {
-                    let place = zone.place;
-                    zones[place] = 0;
-                    Answer::Done
-                }
-            },
+    let zone = match hv_asker::who_asks(table, zones, number) {
+        Ok(zone) => zone,
+        Err(why) => return Answer::from(why),
+    };
+    match hv_empty::has_no_region(zones, zone.place, zone.slots) {
+        Err(_) => Answer::Corrupt,
+        Ok(false) => Answer::No(Reason::NotEmpty),
+        Ok(true) => match hv_empty::has_no_frame(tree, owners, zone.index as u8) {
+            Err(_) => Answer::Corrupt,
+            Ok(false) => Answer::No(Reason::NotEmpty),
+            Ok(true) => {
+                zones[zone.place] = 0;
+                Answer::Done
+            }
         },
     }
 }

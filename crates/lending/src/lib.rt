@@ -10,7 +10,7 @@ ghost use Rattle.std.specs.Prelude.{◌^◌, ◌≤◌};
 ghost use Rattle.lending.specs.Lending.{Smallest, AmountSays};
 
 // How many words and bytes each memory has.
-#[derive(Drop)]
+#[derive(Clone, Copy, Debug, PartialEq, Eq)]
 pub struct Sizes {
     pub table: usize,
     pub zones: usize,
@@ -19,24 +19,25 @@ pub struct Sizes {
     pub words: usize,
 }
 
-// How much to lend.
-#[derive(Drop)]
-pub enum Amount {
-    Is(Sizes),
+// Of what there are too many.
+#[derive(Clone, Copy, Debug, PartialEq, Eq)]
+pub enum TooMany {
     // There are more than 64 machines.
-    ManyMachines,
+    Machines,
     // A set has more than 32 slots.
-    ManySlots,
+    Slots,
     // There are more than 2^52 frames.
-    ManyFrames,
+    Frames,
 }
 
 // How many words the smallest full tree has that has so many frames or more.
+#[tactic(auto, using(crate::proofs::Laws::rises, crate::proofs::Laws::rises_more, crate::proofs::Laws::rising_bound))]
 fn tree_for(frames: usize) -> usize
     requires { frames ≤ 2 ^ 52 }
     ensures { Smallest frames result }
 {
     let mut w: usize = 1;
+    // A `while`, since the next tree is not one word larger.
     while 15 * w + 1 < frames {
         w = 16 * w + 1;
     }
@@ -44,23 +45,23 @@ fn tree_for(frames: usize) -> usize
 }
 
 // How much to lend for so many machines, whose sets have so many slots each, and so many frames.
-pub fn to_lend(machines: usize, slots: usize, frames: usize) -> Amount
+pub fn to_lend(machines: usize, slots: usize, frames: usize) -> Result<Sizes, TooMany>
     ensures { AmountSays machines slots frames result }
 {
     if 64 < machines {
-        return Amount::ManyMachines;
+        return Err(TooMany::Machines);
     }
     if 32 < slots {
-        return Amount::ManySlots;
+        return Err(TooMany::Slots);
     }
     if 4503599627370496 < frames {
-        return Amount::ManyFrames;
+        return Err(TooMany::Frames);
     }
     let tree = tree_for(frames);
-    Amount::Is(Sizes {
+    Ok(Sizes {
         table: 8325,
         zones: machines * (3 + 8 * slots),
-        tree: tree,
+        tree,
         owners: 15 * tree + 1,
         words: 512 * frames,
     })

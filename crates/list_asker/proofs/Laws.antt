@@ -1,16 +1,15 @@
 -- Memories with which no list can be attempted are not sound. Assumes nothing.
 use mathlib.Core.List.{List}
 use Prim.Native.Nat.{ℕ}
-use Rattle.contents.specs.Contents.{Backed}
-use Rattle.claims.specs.declared.Unfit.{Unfit}
-use Rattle.claims.specs.Fits.{Misfit}
-use Rattle.hv_empty.proofs.Laws.{no_fit}
-use Rattle.hv_state.specs.Memory.{Sound}
-use Rattle.hv_state.specs.Serving.{mem}
+use borrow.Author.Tests.{ne_eqb}
+use Rattle.std.specs.Prelude.{Err}
+use Rattle.base.proofs.Choices.{lowest_none}
+use Rattle.config_table.specs.declared.Unlisted.{Unlisted}
+use Rattle.config_table.specs.Holding.{MachineSays}
+use Rattle.zones.specs.Layout.{unlisted}
+use Rattle.list_asker.specs.Listing.{ListerSays}
 
-module _ (t tr o w z : List ℕ) (s : Sound (mem t z tr o w)) where
-  pub not_backed : (Backed o w → ⊥) → ⊥
-  not_backed n = n s.frames.backed
-
-  pub not_fitting : (why : Unfit) → Misfit 0 tr o why → ⊥
-  not_fitting why d = no_fit tr o why d s.frames.accounted.matched
+-- why the table lists no machine is why there is no lister
+pub not_listed : (t tr o w : List ℕ) (number : ℕ) (why : Unlisted) → MachineSays t number (Err why) → ListerSays t tr o w number (Err (unlisted why))
+not_listed t tr o w number Unlisted.NoMachine h = lowest_none _ _ (λ k l. ne_eqb _ _ (h.1 k l))
+not_listed t tr o w number Unlisted.NoTable h = λ z s. h s.table.table.long

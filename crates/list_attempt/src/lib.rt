@@ -2,35 +2,27 @@
 // refused. An inner crate: its functions ask what their callers show.
 #![tactic(auto)]
 
-ghost use Rattle.std.specs.Prelude.{◌≡◌, ℕ, ◌+◌, ◌*◌, ◌≤◌, ◌<◌, length};
+ghost use Rattle.std.specs.Prelude.{◌≡◌, ◌+◌, ◌*◌, ◌≤◌, length};
 ghost use Rattle.base.specs.Ranges.{Only};
 ghost use Rattle.machine.specs.Lists.{is_done};
-ghost use Rattle.request_bytes.specs.Requests.{request_at, Means};
+ghost use Rattle.request_bytes.specs.Requests.{request_at, nth_request, Means, MeansAll};
 ghost use Rattle.hv_blind.specs.Blind.{ServedBlind};
 ghost use Rattle.list_attempt.specs.Attempting.{Told, AttemptSays};
 
 use machine::Answer;
-use request_bytes::Read;
 
-// What came of attempting the requests of a list.
+// The request of a list that is the first that is refused, and what it is answered.
 #[derive(Clone, Copy)]
-pub enum Tried {
-    // All were done.
-    Through,
-    // One was the first that was refused, and what it was answered.
-    Halted(usize, Answer),
+pub struct Halted {
+    pub index: usize,
+    pub answer: Answer,
 }
 
 // Whether an answer is no refusal.
 fn is_done(a: Answer) -> bool
     ensures { result ≡ is_done a }
 {
-    match a {
-        Answer::Done => true,
-        Answer::Address(_) => true,
-        Answer::No(_) => false,
-        Answer::Corrupt => false,
-    }
+    matches!(a, Answer::Done | Answer::Address(_))
 }
 
 // Writes the answer to request k into the buffer from `at` on.
@@ -55,10 +47,8 @@ fn attempt_read(
     requires { Means bytes.now p (request_at bytes.now p) }
     ensures { ServedBlind table.now zones.old tree.old owners.old number (request_at bytes.now p) zones.new tree.new owners.new result }
 {
-    match request_bytes::read_at(bytes, p) {
-        Read::Malformed => Answer::Corrupt,
-        Read::Is(q) => hv_attempt::attempt(table, zones, tree, owners, number, q),
-    }
+    let q = request_bytes::read_at(bytes, p).unwrap();
+    hv_attempt::attempt(table, zones, tree, owners, number, q)
 }
 
 // Attempts the n requests in the bytes from p on, 33 for each, up to the first that is refused, and writes
@@ -74,18 +64,22 @@ pub fn attempt_all(
     n: usize,
     answers: &mut [u64],
     at: usize,
-) -> Tried
-    requires { (p + 33 * n ≤ length bytes.now) × (at + 2 * n ≤ length answers.old) × ((i : ℕ) → i < n → Means bytes.now (p + 33 * i) (request_at bytes.now (p + 33 * i))) }
-    ensures { AttemptSays table.now zones.old tree.old owners.old number (λ i. request_at bytes.now (p + 33 * i)) n zones.new tree.new owners.new answers.new at result × Only answers.old at (at + 2 * n) answers.new }
+) -> Result<(), Halted>
+    requires members { MeansAll bytes.now p n }
+    requires room { at + 2 * n ≤ length answers.old }
+    ensures says { AttemptSays table.now zones.old tree.old owners.old number (nth_request bytes.now p) n
+        zones.new tree.new owners.new answers.new at result }
+    ensures told { Only answers.old at (at + 2 * n) answers.new }
 {
-    let mut i = 0;
-    while i < n {
+    for i in 0..n {
         let a = attempt_read(table, zones, tree, owners, number, bytes, p + 33 * i);
         if !is_done(a) {
-            return Tried::Halted(i, a);
+            return Err(Halted {
+                index: i,
+                answer: a,
+            });
         }
         write_answer(answers, at, i, a);
-        i += 1;
     }
-    Tried::Through
+    Ok(())
 }

@@ -2,16 +2,15 @@
 // functions ask what their callers show.
 #![tactic(auto)]
 
-ghost use Rattle.std.specs.Prelude.{◌≡◌, ℕ, ◌+◌, ◌-◌, ◌*◌, ◌/◌, ◌%◌, ◌≤◌, ◌<◌, length};
+ghost use Rattle.std.specs.Prelude.{◌≡◌, ◌-◌, ◌/◌, ◌%◌, ◌<◌, length};
 ghost use Rattle.base.specs.Choices.{within};
 ghost use Rattle.contents.specs.Contents.{Backed};
 ghost use Rattle.owners.specs.States.{state, Matched};
-ghost use Rattle.request_bytes.specs.Requests.{request_at, Means};
+ghost use Rattle.request_bytes.specs.Requests.{request_at, nth_request, Means, MeansAll};
 ghost use Rattle.list_model.specs.Carrying.{frees};
 ghost use Rattle.list_clearing.specs.Clearing.{ClearedWhere, ClearedAll};
 
 use machine::Request;
-use request_bytes::Read;
 
 // Clears the n frames from frame k on, as far as they have contents.
 fn clear_run(words: &mut [u64], k: usize, n: usize)
@@ -20,8 +19,7 @@ fn clear_run(words: &mut [u64], k: usize, n: usize)
 {
     let frames = words.len() / 512;
     if k < frames {
-        let run = base::least(n, frames - k);
-        contents::wipe(words, k, k + run);
+        contents::wipe(words, k, k + n.min(frames - k));
     }
 }
 
@@ -30,7 +28,7 @@ fn clear_from(words: &mut [u64], first: usize, addr: usize, n: usize)
     requires { length words.old % 512 ≡ 0 }
     ensures { ClearedWhere (within ((addr - first) / 4096) n) words.old words.new }
 {
-    clear_run(words, (base::most(addr, first) - first) / 4096, n);
+    clear_run(words, addr.saturating_sub(first) / 4096, n);
 }
 
 // Clears the frames that a request of the client c, which was done, freed: the tree and the owners are those
@@ -66,10 +64,8 @@ fn clear_read(
     requires { Matched tree.now owners.now × Backed owners.now words.old × (c < 64) × Means bytes.now p (request_at bytes.now p) }
     ensures { ClearedWhere (frees first (state tree.now owners.now) c (request_at bytes.now p)) words.old words.new }
 {
-    match request_bytes::read_at(bytes, p) {
-        Read::Malformed => {}
-        Read::Is(q) => clear_freed(tree, owners, words, first, c, q),
-    }
+    let q = request_bytes::read_at(bytes, p).unwrap();
+    clear_freed(tree, owners, words, first, c, q);
 }
 
 // Clears every frame that one of the n requests in the bytes from p on freed, 33 bytes for each.
@@ -83,12 +79,13 @@ pub fn clear_all(
     p: usize,
     n: usize,
 )
-    requires { Matched tree.now owners.now × Backed owners.now words.old × (c < 64) × (p + 33 * n ≤ length bytes.now) × ((i : ℕ) → i < n → Means bytes.now (p + 33 * i) (request_at bytes.now (p + 33 * i))) }
-    ensures { ClearedAll first (state tree.now owners.now) c (λ i. request_at bytes.now (p + 33 * i)) n words.old words.new }
+    requires matched { Matched tree.now owners.now }
+    requires backed { Backed owners.now words.old }
+    requires client { c < 64 }
+    requires members { MeansAll bytes.now p n }
+    ensures { ClearedAll first (state tree.now owners.now) c (nth_request bytes.now p) n words.old words.new }
 {
-    let mut i = 0;
-    while i < n {
+    for i in 0..n {
         clear_read(tree, owners, words, first, c, bytes, p + 33 * i);
-        i += 1;
     }
 }

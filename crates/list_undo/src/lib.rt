@@ -3,12 +3,12 @@
 // functions ask what their callers show.
 #![tactic(auto)]
 
-ghost use Rattle.std.specs.Prelude.{◌≡◌, ℕ, ◌+◌, ◌*◌, ◌≤◌, ◌<◌, length};
+ghost use Rattle.std.specs.Prelude.{◌≡◌, ◌+◌, ◌*◌, ◌≤◌, length};
 ghost use Rattle.base.specs.Ranges.{Only};
-ghost use Rattle.request_bytes.specs.Requests.{request_at, Means};
-ghost use Rattle.list_undo.specs.Undoing.{UndoneSays};
+ghost use Rattle.request_bytes.specs.Requests.{nth_request, MeansAll};
+ghost use Rattle.list_undo.specs.Undoing.{SpareFits, UndoneSays};
 
-use list_attempt::Tried;
+use list_attempt::Halted;
 
 // Copies the machines' words, the tree and the owners.
 fn copy_all(
@@ -19,12 +19,14 @@ fn copy_all(
     to_tree: &mut [u16],
     to_owners: &mut [u8],
 )
-    requires { (length to_zones.old ≡ length zones.now) × (length to_tree.old ≡ length tree.now) × (length to_owners.old ≡ length owners.now) }
-    ensures { (to_zones.new ≡ zones.now) × (to_tree.new ≡ tree.now) × (to_owners.new ≡ owners.now) }
+    requires { SpareFits zones.now tree.now owners.now to_zones.old to_tree.old to_owners.old }
+    ensures zones { to_zones.new ≡ zones.now }
+    ensures tree { to_tree.new ≡ tree.now }
+    ensures owners { to_owners.new ≡ owners.now }
 {
-    copies::copy_words(zones, to_zones);
-    copies::copy_tree(tree, to_tree);
-    copies::copy_bytes(owners, to_owners);
+    to_zones.copy_from_slice(zones);
+    to_tree.copy_from_slice(tree);
+    to_owners.copy_from_slice(owners);
 }
 
 // Attempts the n requests in the bytes from p on, and leaves everything as it was where one is refused. The
@@ -43,16 +45,22 @@ pub fn attempt_or_undo(
     n: usize,
     answers: &mut [u64],
     at: usize,
-) -> Tried
-    requires { (length spare_zones.old ≡ length zones.old) × (length spare_tree.old ≡ length tree.old) × (length spare_owners.old ≡ length owners.old) × (p + 33 * n ≤ length bytes.now) × (at + 2 * n ≤ length answers.old) × ((i : ℕ) → i < n → Means bytes.now (p + 33 * i) (request_at bytes.now (p + 33 * i))) }
-    ensures { (spare_tree.new ≡ tree.old) × (spare_owners.new ≡ owners.old) × UndoneSays table.now zones.old tree.old owners.old number (λ i. request_at bytes.now (p + 33 * i)) n zones.new tree.new owners.new answers.new at result × Only answers.old at (at + 2 * n) answers.new }
+) -> Result<(), Halted>
+    requires spare { SpareFits zones.old tree.old owners.old spare_zones.old spare_tree.old spare_owners.old }
+    requires members { MeansAll bytes.now p n }
+    requires room { at + 2 * n ≤ length answers.old }
+    ensures tree { spare_tree.new ≡ tree.old }
+    ensures owners { spare_owners.new ≡ owners.old }
+    ensures says { UndoneSays table.now zones.old tree.old owners.old number (nth_request bytes.now p) n
+        zones.new tree.new owners.new answers.new at result }
+    ensures told { Only answers.old at (at + 2 * n) answers.new }
 {
     copy_all(zones, tree, owners, spare_zones, spare_tree, spare_owners);
     match list_attempt::attempt_all(table, zones, tree, owners, number, bytes, p, n, answers, at) {
-        Tried::Through => Tried::Through,
-        Tried::Halted(i, a) => {
+        Ok(()) => Ok(()),
+        Err(halted) => {
             copy_all(spare_zones, spare_tree, spare_owners, zones, tree, owners);
-            Tried::Halted(i, a)
+            Err(halted)
         }
     }
 }

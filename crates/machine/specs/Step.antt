@@ -11,7 +11,8 @@ use Rattle.machine.specs.declared.Which.{Which}
 use Rattle.machine.specs.declared.Which.TheVariants.{Processors, Devices}
 use Rattle.machine.specs.declared.Request.{Request}
 use Rattle.machine.specs.declared.Request.TheVariants.{AddZone, RemoveZone, RemoveZoneWhole, Insert, Remove, Translate, Alloc, AllocContiguous, Dealloc, DeallocContiguous}
-use Rattle.machine.specs.declared.Reason.TheVariants.{NoMachine, Present, NotPresent, NotEmpty, NotGiven, Overlap, NoRoom, NotInSet, NotMapped, NoFrames, Below, NotAtFrame, Outside, NotTaken, NotYours}
+use Rattle.machine.specs.declared.Reason.TheVariants.{NoMachine, Present, NotPresent, NotEmpty, NotGiven, Overlap, NoRoom, NotInSet}
+use Rattle.machine.specs.declared.Reason.TheVariants.{NotMapped, NoFrames, Below, NotAtFrame, Outside, NotTaken, NotYours}
 use Rattle.machine.specs.declared.Answer.TheVariants.{Done, Address}
 use Rattle.machine.specs.State.{Plan, State, Outcome, out, refuse, is_free, is_mine, address_of, with_present, with_set, taken, gone, freed}
 

@@ -3,6 +3,9 @@
 // the definitions are in specs/ and the theorems in proofs/. The crates hv_* do what `step` says, in memory.
 #![tactic(auto)]
 
+ghost use Rattle.std.specs.Prelude.{◌≡◌};
+ghost use Rattle.machine.specs.Refusals.{refused};
+
 use address::Region;
 
 // Which of a machine's two sets of regions.
@@ -28,7 +31,7 @@ pub enum Request {
 }
 
 // Why a request is refused.
-#[derive(Clone, Copy)]
+#[derive(Clone, Copy, Debug, PartialEq, Eq)]
 pub enum Reason {
     // No machine of the configuration has the asker's number.
     NoMachine,
@@ -62,8 +65,8 @@ pub enum Reason {
     NotYours,
 }
 
-// What is answered.
-#[derive(Clone, Copy)]
+// What is answered. No Result: `step` and what is proved of it speak of these four.
+#[derive(Clone, Copy, Debug, PartialEq, Eq)]
 pub enum Answer {
     Done,
     // A host address: that of a frame, or the one that a guest address stands for.
@@ -71,4 +74,23 @@ pub enum Answer {
     No(Reason),
     // The memories are not sound. No request of sound memories is answered so.
     Corrupt,
+}
+
+// Why nothing is done for a machine: a reason, or memories that are not sound.
+#[derive(Clone, Copy, Debug, PartialEq, Eq)]
+pub enum Refusal {
+    No(Reason),
+    // The memories are not sound.
+    Corrupt,
+}
+
+impl From<Refusal> for Answer {
+    ghost from_gives = { λ why a. a ≡ refused why };
+
+    fn from(why: Refusal) -> Answer {
+        match why {
+            Refusal::No(reason) => Self::No(reason),
+            Refusal::Corrupt => Self::Corrupt,
+        }
+    }
 }

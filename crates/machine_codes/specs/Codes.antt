@@ -1,6 +1,7 @@
 -- The answers to a machine as numbers, and a set of regions by its number. Assumes nothing.
 use Rattle.std.specs.Prelude.{ℕ, zero, suc}
-use Rattle.codes.specs.Codes.{done, outside, empty, no_room, not_taken, corrupt, below, not_at_frame, not_yours, no_machine, present, not_present, not_empty, not_given, overlap, not_in_set, not_mapped}
+use Rattle.codes.specs.Codes.{done, outside, empty, no_room, not_taken, corrupt, below, not_at_frame, not_yours, no_machine}
+use Rattle.codes.specs.Codes.{present, not_present, not_empty, not_given, overlap, not_in_set, not_mapped}
 use Rattle.machine.specs.declared.Answer.{Answer}
 use Rattle.machine.specs.declared.Reason.{Reason}
 use Rattle.machine.specs.declared.Which.{Which}

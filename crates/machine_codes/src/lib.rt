@@ -52,10 +52,8 @@ pub fn address_in(a: Answer, old: u64) -> u64
     ensures { result ≡ address_in a old }
 {
     match a {
-        Answer::Done => old,
         Answer::Address(at) => at,
-        Answer::No(_) => old,
-        Answer::Corrupt => old,
+        _ => old,
     }
 }
 
@@ -63,8 +61,8 @@ pub fn address_in(a: Answer, old: u64) -> u64
 pub fn which_of(n: u64) -> Which
     ensures { result ≡ which_of n }
 {
-    if n == 0 {
-        return Which::Processors;
+    match n {
+        0 => Which::Processors,
+        _ => Which::Devices,
     }
-    Which::Devices
 }

@@ -76,7 +76,7 @@ alloc_only b number b' a s v =
     (λ m. at_next (at_next (at_first refl))))
 
 pub alloc_address : Served idle 7 Alloc (mem table there taken held zeros) (Address 65536)
-alloc_address = laws.alloc_at table there one nobody zeros 7 client asks 65536 taken held frames.alloc_at
+alloc_address = laws.alloc_at table there one nobody zeros 7 client asks 65536 taken held frames.alloc_ok
 
 pub alloc_no_no_room : Served busy 7 Alloc busy (No NoRoom)
 alloc_no_no_room = laws.alloc_no table there taken held dirty 7 client asks NoFrame.NoRoom taken held (No NoRoom) frames.alloc_no_no_room refl
@@ -102,7 +102,7 @@ alloc_contiguous_only b number n al b' a s v =
     (λ m. at_next (at_next (at_first refl))))
 
 pub alloc_contiguous_address : Served idle 7 (AllocContiguous 1 3) (mem table there taken held zeros) (Address 65536)
-alloc_contiguous_address = laws.run_at table there one nobody zeros 7 client asks 1 3 65536 taken held frames.alloc_contiguous_at
+alloc_contiguous_address = laws.run_at table there one nobody zeros 7 client asks 1 3 65536 taken held frames.alloc_contiguous_ok
 
 pub alloc_contiguous_no_no_frames : Served idle 7 (AllocContiguous 0 0) idle (No NoFrames)
 alloc_contiguous_no_no_frames = laws.run_no table there one nobody zeros 7 client asks 0 0 NoRun.Empty one nobody (No NoFrames) frames.alloc_contiguous_no_empty refl
@@ -144,7 +144,7 @@ dealloc_only b number addr b' a s v =
     (λ m. at_next (at_next (at_first refl))))
 
 pub dealloc_done : Served busy 7 (Dealloc 65536) idle Done
-dealloc_done = laws.dealloc_done table there taken held dirty 7 client asks 65536 one nobody zeros frames.dealloc_done
+dealloc_done = laws.dealloc_done table there taken held dirty 7 client asks 65536 one nobody zeros frames.dealloc_ok
 
 pub dealloc_no_below : Served busy 7 (Dealloc 0) busy (No Below)
 dealloc_no_below = laws.dealloc_no table there taken held dirty 7 client asks 0 notFreed.Below taken held dirty (No Below) frames.dealloc_no_below refl
@@ -184,7 +184,7 @@ dealloc_contiguous_only b number addr n b' a s v =
     (λ m. at_next (at_next (at_first refl))))
 
 pub dealloc_contiguous_done : Served busy 7 (DeallocContiguous 65536 1) idle Done
-dealloc_contiguous_done = laws.dealloc_run_done table there taken held dirty 7 client asks 65536 1 one nobody zeros frames.dealloc_contiguous_done
+dealloc_contiguous_done = laws.dealloc_run_done table there taken held dirty 7 client asks 65536 1 one nobody zeros frames.dealloc_contiguous_ok
 
 pub dealloc_contiguous_no_below : Served busy 7 (DeallocContiguous 0 1) busy (No Below)
 dealloc_contiguous_no_below = laws.dealloc_run_no table there taken held dirty 7 client asks 0 1 runNotFreed.Below taken held dirty (No Below) frames.dealloc_contiguous_no_below refl

@@ -5,14 +5,14 @@ use Prim.Native.Nat.{ℕ}
 use native.Mathlib.Omega.{arith}
 use lib.Dec.{lit<, lit≤}
 use lib.ListN.{length}
+use Rattle.std.proofs.Common.{true, false, Ok, Err}
 use Rattle.config_view.specs.Table.{table_config}
 use Rattle.config_examples.proofs.Truck.{table, first, long, machines_is}
 use Rattle.machine.specs.declared.Which.TheVariants.{Processors}
 use Rattle.zones.specs.Layout.{Shaped}
 use Rattle.hv_state.proofs.Zones.{set_is}
-use Rattle.hv_looks.specs.declared.Presence.{Presence}
-use Rattle.hv_looks.specs.declared.SetSize.{SetSize}
-use Rattle.hv_looks.specs.declared.SetRegion.{SetRegion}
+use Rattle.hv_looks.specs.declared.NotSeen.{NotSeen}
+use Rattle.hv_looks.specs.declared.NoRegion.{NoRegion}
 use Rattle.hv_looks.specs.Looks.{Known, Unknown, Corrupted, HasSet, PresenceSays, SetSizeSays, SetRegionSays, regions_of}
 use Rattle.machine_examples.proofs.Memories.{seven_below, no_eight, away, there, mapped, slots_one, place_zero, is_here, is_away, is_zone, regions_one, has_mapped}
 
@@ -45,48 +45,48 @@ has_set = rw (place_zero mapped refl, slots_one mapped refl) (record { lies = li
 
 -- ---- is_there
 
-pub is_there_here : PresenceSays table there 7 Presence.Here
-is_there_here = (known there refl, rw (place_zero there refl) refl, (is_here there refl refl).present)
+pub is_there_true : PresenceSays table there 7 (Ok true)
+is_there_true = (known there refl, rw (place_zero there refl) refl, (is_here there refl refl).present)
 
-pub is_there_away : PresenceSays table away 7 Presence.Away
-is_there_away = (known away refl, rw (place_zero away refl) refl, (is_away away refl refl).absent)
+pub is_there_false : PresenceSays table away 7 (Ok false)
+is_there_false = (known away refl, rw (place_zero away refl) refl, (is_away away refl refl).absent)
 
-pub is_there_no_machine : PresenceSays table away 8 Presence.NoMachine
+pub is_there_no_machine : PresenceSays table away 8 (Err NotSeen.NoMachine)
 is_there_no_machine = unknown
 
-pub is_there_no_table : PresenceSays [] away 7 Presence.NoTable
+pub is_there_no_table : PresenceSays [] away 7 (Err NotSeen.NoTable)
 is_there_no_table = no_words
 
-pub is_there_corrupt : PresenceSays table [] 7 Presence.Corrupt
+pub is_there_corrupt : PresenceSays table [] 7 (Err NotSeen.Corrupt)
 is_there_corrupt = corrupted _ (λ f. f.shaped)
 
 -- ---- regions
 
-pub regions_number : SetSizeSays table mapped 7 Processors (SetSize.Number 1)
-regions_number = (known mapped refl, has_set, rw mapped_set refl)
+pub regions_ok : SetSizeSays table mapped 7 Processors (Ok 1)
+regions_ok = (known mapped refl, has_set, rw mapped_set refl)
 
-pub regions_no_machine : SetSizeSays table mapped 8 Processors SetSize.NoMachine
+pub regions_no_machine : SetSizeSays table mapped 8 Processors (Err NotSeen.NoMachine)
 regions_no_machine = unknown
 
-pub regions_no_table : SetSizeSays [] mapped 7 Processors SetSize.NoTable
+pub regions_no_table : SetSizeSays [] mapped 7 Processors (Err NotSeen.NoTable)
 regions_no_table = no_words
 
-pub regions_corrupt : SetSizeSays table [] 7 Processors SetSize.Corrupt
+pub regions_corrupt : SetSizeSays table [] 7 Processors (Err NotSeen.Corrupt)
 regions_corrupt = corrupted _ (λ f. f.0.shaped)
 
 -- ---- region
 
-pub region_is : SetRegionSays table mapped 7 Processors 0 (SetRegion.Is first)
-region_is = record { known = known mapped refl; set = has_set; within = rw mapped_set (lit< tt); is = rw mapped_set refl }
+pub region_ok : SetRegionSays table mapped 7 Processors 0 (Ok first)
+region_ok = record { known = known mapped refl; set = has_set; within = rw mapped_set (lit< tt); is = rw mapped_set refl }
 
-pub region_no_region : SetRegionSays table mapped 7 Processors 1 SetRegion.NoRegion
+pub region_no_region : SetRegionSays table mapped 7 Processors 1 (Err NoRegion.NoRegion)
 region_no_region = (known mapped refl, has_set, rw mapped_set (lit≤ tt))
 
-pub region_no_machine : SetRegionSays table mapped 8 Processors 0 SetRegion.NoMachine
+pub region_no_machine : SetRegionSays table mapped 8 Processors 0 (Err NoRegion.NoMachine)
 region_no_machine = unknown
 
-pub region_no_table : SetRegionSays [] mapped 7 Processors 0 SetRegion.NoTable
+pub region_no_table : SetRegionSays [] mapped 7 Processors 0 (Err NoRegion.NoTable)
 region_no_table = no_words
 
-pub region_corrupt : SetRegionSays table [] 7 Processors 0 SetRegion.Corrupt
+pub region_corrupt : SetRegionSays table [] 7 Processors 0 (Err NoRegion.Corrupt)
 region_corrupt = corrupted _ (λ f. f.0.shaped)

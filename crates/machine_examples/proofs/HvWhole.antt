@@ -9,7 +9,7 @@ use Rattle.base.proofs.Ranges.{zero_word}
 use Rattle.bitmap_examples.proofs.Trees.{one, taken}
 use Rattle.allocator_examples.proofs.Memories.{nobody, held}
 use Rattle.frames_examples.proofs.Words.{zeros, dirty}
-use Rattle.frames_examples.proofs.FramesPool.{release_all_done}
+use Rattle.frames_examples.proofs.FramesPool.{release_all_ok}
 use Rattle.config_examples.proofs.Truck.{table}
 use Rattle.machine.specs.declared.Request.TheVariants.{RemoveZoneWhole}
 use Rattle.machine.specs.declared.Reason.TheVariants.{NoMachine, NotPresent}
@@ -36,7 +36,7 @@ emptied = record { long = refl; inside = λ j l h. zero_word 22 j; outside = oth
 
 -- with its frame, to which it wrote
 pub remove_zone_whole_done : Served busy 7 RemoveZoneWhole (mem table away one nobody zeros) Done
-remove_zone_whole_done = whole_served table there taken held dirty 7 client (is_client there refl refl) one nobody zeros away release_all_done emptied
+remove_zone_whole_done = whole_served table there taken held dirty 7 client (is_client there refl refl) one nobody zeros away release_all_ok emptied
 
 pub remove_zone_whole_no_no_machine : Served busy 8 RemoveZoneWhole busy (No NoMachine)
 remove_zone_whole_no_no_machine = no_machine_lem there taken held dirty RemoveZoneWhole (λ s m. refl)

@@ -7,21 +7,21 @@ use native.Mathlib.Nat.{not-suc-le-zero}
 use native.Mathlib.Omega.{arith}
 use lib.Dec.{lit<, lit≤}
 use lib.ListN.{length, get_or}
+use Rattle.std.specs.Prelude.{Ok, Err}
+use Rattle.std.proofs.Common.{Some, None, Ok}
 use Rattle.base.specs.Ranges.{Outside, Only}
 use Rattle.address.specs.declared.Region.{Region}
 use Rattle.region_words.specs.Words.{number_of, nothing, HasRegion}
 use Rattle.config_table.specs.Holding.{GivenSays}
-use Rattle.config_table.specs.declared.Given.{Given}
 use Rattle.config_examples.proofs.Truck.{table, first, second, first_valid, long, machines_is, count_is, region_first}
 use Rattle.set_model.specs.Sets.{same, meets, covers, any, find, enter, without, MapsLess}
 use Rattle.set_model.proofs.Pages.{enter_maps, without_maps}
 use Rattle.set_slots.specs.Slots.{regions_in, Lies, Readable}
 use Rattle.set_claims.specs.declared.NotInserted.{NotInserted}
 use Rattle.set_claims.specs.Claims.{Refused}
-use Rattle.memory_set.specs.declared.Translation.{Translation}
+use Rattle.memory_set.specs.declared.NotMapped.{NotMapped}
 use Rattle.memory_set.specs.Looks.{TranslateSays}
-use Rattle.memory_set_changes.specs.declared.Inserted.{Inserted}
-use Rattle.memory_set_changes.specs.declared.Removed.{Removed}
+use Rattle.memory_set_changes.specs.declared.NotRemoved.{NotRemoved}
 use Rattle.memory_set_changes.specs.Changes.{InsertSays, RemoveSays}
 use Rattle.machine.specs.declared.Which.{Which}
 use Rattle.zones.specs.Layout.{set_at}
@@ -38,7 +38,7 @@ spot w = record { index = 0; at = set_at 0 1 w; slots = 1 }
 pub is_spot : (z : List ℕ) → length z ≡ 22 → get_or z 0 0 ≡ 1 → (w : Which) → IsSpot table z 7 w (spot w)
 is_spot z l e w = spot_is table z 7 w zone (set_at 0 1 w) (is_here z l e, is_zone z l) refl
 
-pub is_given : GivenSays table 0 first (Given.At 0)
+pub is_given : GivenSays table 0 first (Ok (Some 0))
 is_given = (
   long,
   record {
@@ -51,7 +51,7 @@ is_given = (
 other : second ≡ first → ⊥
 other e = let h = ap (λ (r : Region). r.host) e in omega arith
 
-pub not_given_lem : GivenSays table 0 second Given.No
+pub not_given_lem : GivenSays table 0 second (Ok None)
 not_given_lem = (long, rw machines_is (lit< tt), λ k l e. let p = rw (count_is 0 (lit< tt)) at l in let q : k ≡ 0 = omega arith in other (e ∙ (rw q region_first)))
 
 -- ---- the region and the tests of it
@@ -84,7 +84,7 @@ module _ (z z' : List ℕ) (at : ℕ) (e : get_or z at 0 ≡ 0) (h : HasRegion z
   filled : Readable z' at 1
   filled = record { lies = lies'; few = rw e' (lit≤ tt) }
 
-  goes_in : InsertSays z at 1 first z' Inserted.Done
+  goes_in : InsertSays z at 1 first z' (Ok tt)
   goes_in =
       record {
         fitting = record { readable = empty; valid = first_valid; alone = rw is_none refl };
@@ -99,7 +99,7 @@ module _ (z z' : List ℕ) (at : ℕ) (e : get_or z at 0 ≡ 0) (h : HasRegion z
   listed : any (same first) (regions_in z' at 1) ≡ true
   listed = rw (is_one, is_same) refl
 
-  goes_out : RemoveSays z' at 1 first z Removed.Done
+  goes_out : RemoveSays z' at 1 first z (Ok tt)
   goes_out =
       record {
         readable = filled;
@@ -115,10 +115,10 @@ module _ (z z' : List ℕ) (at : ℕ) (e : get_or z at 0 ≡ 0) (h : HasRegion z
   lists_none : Readable z at 1 × (any (same first) (regions_in z at 1) ≡ false)
   lists_none = (empty, rw is_none refl)
 
-  reaches : TranslateSays z' at 1 5 (Translation.Host 4101)
+  reaches : TranslateSays z' at 1 5 (Ok 4101)
   reaches = record { readable = filled; covered = rw (is_one, does_cover) refl; is = rw (is_one, does_cover) refl }
 
-  reaches_none : TranslateSays z at 1 5 Translation.NotMapped
+  reaches_none : TranslateSays z at 1 5 (Err NotMapped.NoRegion)
   reaches_none = (empty, rw is_none refl)
 
 -- ---- the processors' set
@@ -135,10 +135,10 @@ mapped_only = record { long = refl; others = others }
     others (suc (suc (suc (suc (suc zero))))) o = absurd (o (lit≤ tt) (lit< tt))
     others (suc (suc (suc (suc (suc (suc k)))))) o = refl
 
-pub mapped_in : InsertSays there 1 1 first mapped Inserted.Done
+pub mapped_in : InsertSays there 1 1 first mapped (Ok tt)
 mapped_in = goes_in there mapped 1 refl has_none refl has_mapped (lit≤ tt) (lit≤ tt) mapped_only
 
-pub mapped_out : RemoveSays mapped 1 1 first there Removed.Done
+pub mapped_out : RemoveSays mapped 1 1 first there (Ok tt)
 mapped_out = goes_out there mapped 1 refl has_none refl has_mapped (lit≤ tt) (lit≤ tt) mapped_only
 
 pub mapped_overlaps : Refused mapped 1 1 first NotInserted.Overlap
@@ -147,7 +147,7 @@ mapped_overlaps = overlaps there mapped 1 refl has_none refl has_mapped (lit≤ 
 pub mapped_none : Readable there 1 1 × (any (same first) (regions_in there 1 1) ≡ false)
 mapped_none = lists_none there mapped 1 refl has_none refl has_mapped (lit≤ tt) (lit≤ tt) mapped_only
 
-pub mapped_reaches : TranslateSays mapped 1 1 5 (Translation.Host 4101)
+pub mapped_reaches : TranslateSays mapped 1 1 5 (Ok 4101)
 mapped_reaches = reaches there mapped 1 refl has_none refl has_mapped (lit≤ tt) (lit≤ tt) mapped_only
 
 -- ---- the devices' set
@@ -169,10 +169,10 @@ driven_only = record { long = refl; others = others }
     others (suc (suc (suc (suc (suc (suc (suc (suc (suc (suc zero)))))))))) o = absurd (o (lit≤ tt) (lit< tt))
     others (suc (suc (suc (suc (suc (suc (suc (suc (suc (suc (suc k))))))))))) o = refl
 
-pub driven_in : InsertSays there 6 1 first driven Inserted.Done
+pub driven_in : InsertSays there 6 1 first driven (Ok tt)
 driven_in = goes_in there driven 6 refl drives_none refl has_driven (lit≤ tt) (lit≤ tt) driven_only
 
-pub driven_out : RemoveSays driven 6 1 first there Removed.Done
+pub driven_out : RemoveSays driven 6 1 first there (Ok tt)
 driven_out = goes_out there driven 6 refl drives_none refl has_driven (lit≤ tt) (lit≤ tt) driven_only
 
 pub driven_overlaps : Refused driven 6 1 first NotInserted.Overlap
@@ -181,5 +181,5 @@ driven_overlaps = overlaps there driven 6 refl drives_none refl has_driven (lit�
 pub driven_none : Readable there 6 1 × (any (same first) (regions_in there 6 1) ≡ false)
 driven_none = lists_none there driven 6 refl drives_none refl has_driven (lit≤ tt) (lit≤ tt) driven_only
 
-pub driven_reaches_none : TranslateSays there 6 1 5 Translation.NotMapped
+pub driven_reaches_none : TranslateSays there 6 1 5 (Err NotMapped.NoRegion)
 driven_reaches_none = reaches_none there driven 6 refl drives_none refl has_driven (lit≤ tt) (lit≤ tt) driven_only

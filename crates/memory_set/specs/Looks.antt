@@ -1,29 +1,28 @@
 -- What is answered of the set at `at` in the words z, whatever they are: `regions_in` is the list of its regions in any words. Assumes nothing.
-use Rattle.std.specs.Prelude.{◌≡◌, Bool, true, false, List, ℕ, ◌≤◌, ◌<◌, get_or}
+use Rattle.std.specs.Prelude.{◌≡◌, Bool, true, false, List, ℕ, ◌≤◌, ◌<◌, get_or, Result, Ok, Err}
 use Rattle.address.specs.declared.Region.{Region}
 use Rattle.address.specs.Regions.{host_of}
 use Rattle.set_model.specs.Sets.{meets, starts, covers, any, none, find}
 use Rattle.set_slots.specs.Slots.{regions_in, Lies, Readable, Empty, UsedOk, SetOk}
 use Rattle.set_claims.specs.Claims.{BadSays}
-use Rattle.memory_set.specs.declared.Answer.{Answer}
-use Rattle.memory_set.specs.declared.Translation.{Translation}
-use Rattle.memory_set.specs.declared.Checked.{Checked}
+use Rattle.set_claims.specs.declared.Bad.{Bad}
+use Rattle.memory_set.specs.declared.NotMapped.{NotMapped}
+use Rattle.memory_set.specs.declared.NotInOrder.{NotInOrder}
 
--- yes, exactly if the test of the set's regions passes
-abbrev pub AnswerSays : Bool → List ℕ → ℕ → ℕ → Answer → Type 0
-AnswerSays test z at slots Answer.Yes = Readable z at slots × (test ≡ true)
-AnswerSays test z at slots Answer.No = Readable z at slots × (test ≡ false)
-AnswerSays test z at slots (Answer.Bad why) = BadSays z at slots why
+-- whether the test of the set's regions passes
+abbrev pub AnswerSays : Bool → List ℕ → ℕ → ℕ → Result Bool Bad → Type 0
+AnswerSays test z at slots (Ok b) = Readable z at slots × (test ≡ b)
+AnswerSays test z at slots (Err why) = BadSays z at slots why
 
-abbrev pub EmptySays : List ℕ → ℕ → ℕ → Answer → Type 0
+abbrev pub EmptySays : List ℕ → ℕ → ℕ → Result Bool Bad → Type 0
 EmptySays z at slots = AnswerSays (none (regions_in z at slots)) z at slots
 
 -- whether a region of the set has a guest page of r
-abbrev pub OverlapsSays : List ℕ → ℕ → ℕ → Region → Answer → Type 0
+abbrev pub OverlapsSays : List ℕ → ℕ → ℕ → Region → Result Bool Bad → Type 0
 OverlapsSays z at slots r = AnswerSays (any (meets r) (regions_in z at slots)) z at slots
 
 -- whether a region of the set starts at a guest address
-abbrev pub StartsSays : List ℕ → ℕ → ℕ → ℕ → Answer → Type 0
+abbrev pub StartsSays : List ℕ → ℕ → ℕ → ℕ → Result Bool Bad → Type 0
 StartsSays z at slots guest = AnswerSays (any (starts guest) (regions_in z at slots)) z at slots
 
 -- ---- translation
@@ -39,10 +38,10 @@ pub record Reaches (z : List ℕ) (at slots addr h : ℕ) : Type 0 where
   pub is : h ≡ host_in (regions_in z at slots) addr
 
 -- the host address of a guest address
-abbrev pub TranslateSays : List ℕ → ℕ → ℕ → ℕ → Translation → Type 0
-TranslateSays z at slots addr (Translation.Host h) = Reaches z at slots addr h
-TranslateSays z at slots addr Translation.NotMapped = Readable z at slots × (any (covers addr) (regions_in z at slots) ≡ false)
-TranslateSays z at slots addr (Translation.Bad why) = BadSays z at slots why
+abbrev pub TranslateSays : List ℕ → ℕ → ℕ → ℕ → Result ℕ NotMapped → Type 0
+TranslateSays z at slots addr (Ok h) = Reaches z at slots addr h
+TranslateSays z at slots addr (Err NotMapped.NoRegion) = Readable z at slots × (any (covers addr) (regions_in z at slots) ≡ false)
+TranslateSays z at slots addr (Err (NotMapped.Bad why)) = BadSays z at slots why
 
 -- ---- order
 
@@ -60,7 +59,7 @@ pub record FirstWrong (z : List ℕ) (at slots i : ℕ) : Type 0 where
   pub broken : SetOk z at slots → ⊥
 
 -- whether there is a set in order
-abbrev pub CheckSays : List ℕ → ℕ → ℕ → Checked → Type 0
-CheckSays z at slots Checked.Fine = Lies z at slots × SetOk z at slots
-CheckSays z at slots (Checked.Bad why) = BadSays z at slots why
-CheckSays z at slots (Checked.Wrong i) = FirstWrong z at slots i
+abbrev pub CheckSays : List ℕ → ℕ → ℕ → Result (Unit {0}) NotInOrder → Type 0
+CheckSays z at slots (Ok _) = Lies z at slots × SetOk z at slots
+CheckSays z at slots (Err (NotInOrder.Bad why)) = BadSays z at slots why
+CheckSays z at slots (Err (NotInOrder.Wrong i)) = FirstWrong z at slots i

@@ -15,10 +15,7 @@ pub fn one_if_owned(tree: &[u16], owners: &[u8], k: usize, c: u8) -> usize
     requires { Matched tree.now owners.now × (k ≤ 15 * length tree.now) × (c < 64) }
     ensures { result ≡ owns c (state tree.now owners.now k) }
 {
-    if owners[k] != c {
-        return 0;
-    }
-    if bitmap_tree::read(tree, tree.len() + k) == 0 {
+    if owners[k] == c && bitmap_tree::read(tree, tree.len() + k) == 0 {
         1
     } else {
         0
@@ -31,10 +28,8 @@ pub fn count(tree: &[u16], owners: &[u8], c: u8) -> usize
     ensures { result ≡ owned_by tree.now owners.now c }
 {
     let mut total: usize = 0;
-    let mut k: usize = 0;
-    while k < owners.len() {
+    for k in 0..owners.len() {
         total += one_if_owned(tree, owners, k, c);
-        k += 1;
     }
     total
 }
@@ -43,8 +38,7 @@ pub fn count(tree: &[u16], owners: &[u8], c: u8) -> usize
 pub fn placed(base: usize, k: usize) -> bool
     ensures { Says result (Placed base k) }
 {
-    let places = (18446744073709551615 - base) / 4096;
-    if k < places { true } else { false }
+    k < (usize::MAX - base) / 4096
 }
 
 // Whether the bit and the byte c of frame k are in order.
@@ -52,19 +46,11 @@ fn in_order(base: usize, k: usize, bit: u16, c: u8) -> bool
     requires { bit < 2 }
     ensures { Says result (Right base k bit c) }
 {
-    if c == 255 {
-        if bit == 0 {
-            return true;
-        }
-        return placed(base, k);
+    match c {
+        255 => bit == 0 || placed(base, k),
+        0..=63 => bit == 0 && placed(base, k),
+        _ => false,
     }
-    if c >= 64 {
-        return false;
-    }
-    if bit == 1 {
-        return false;
-    }
-    placed(base, k)
 }
 
 // The first frame that is not in order, or the number of frames.
@@ -73,30 +59,13 @@ pub fn right_until(tree: &[u16], owners: &[u8], base: usize) -> usize
     ensures { Stops (RightAt base tree.now owners.now) 0 (cap tree.now) result }
 {
     let w = tree.len();
-    let mut k: usize = 0;
-    while k < owners.len() {
+    for k in 0..owners.len() {
         let bit = bitmap_tree::read(tree, w + k);
         if !in_order(base, k, bit, owners[k]) {
             return k;
         }
-        k += 1;
     }
-    k
-}
-
-// The first frame from a on whose byte is c, or the number of frames.
-fn other_until(owners: &[u8], a: usize, c: u8) -> usize
-    requires { a ≤ length owners.now }
-    ensures { Stops (λ k. get_or owners.now k 255 ≡ c → ⊥) a (length owners.now) result }
-{
-    let mut k = a;
-    while k < owners.len() {
-        if owners[k] == c {
-            return k;
-        }
-        k += 1;
-    }
-    k
+    owners.len()
 }
 
 // Makes every frame of the client c free, a stretch of them at a time.
@@ -106,11 +75,9 @@ pub fn release(tree: &mut [u16], owners: &mut [u8], c: u8)
 {
     let end = owners.len();
     let mut k: usize = 0;
-    while k < end {
-        let a = other_until(owners, k, c);
-        if a == end {
-            return;
-        }
+    // A `while`, since a stretch ends where its bytes do.
+    while let Some(i) = owners[k..].iter().position(|x| *x == c) {
+        let a = k + i;
         k = owners::byte_until(owners, a, end, c);
         owners::assign(tree, owners, a, k, 1, 255);
     }

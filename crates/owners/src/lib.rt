@@ -13,11 +13,7 @@ pub fn fill(owners: &mut [u8], a: usize, b: usize, c: u8)
     requires { (a ≤ b) × (b ≤ length owners.old) }
     ensures { Filled owners.old a b c owners.new }
 {
-    let mut k = a;
-    while k < b {
-        owners[k] = c;
-        k += 1;
-    }
+    owners[a..b].fill(c);
 }
 
 // Gives frame k the bit v and the byte c.
@@ -43,14 +39,10 @@ pub fn byte_until(owners: &[u8], a: usize, b: usize, c: u8) -> usize
     requires { (a ≤ b) × (b ≤ length owners.now) }
     ensures { Stops (λ k. get_or owners.now k 255 ≡ c) a b result }
 {
-    let mut k = a;
-    while k < b {
-        if owners[k] != c {
-            return k;
-        }
-        k += 1;
+    match owners[a..b].iter().position(|x| *x != c) {
+        Some(i) => a + i,
+        None => b,
     }
-    k
 }
 
 // The first frame from a up to b that is not owned by the client c, or b.
@@ -67,14 +59,7 @@ pub fn has_owner(tree: &[u16], owners: &[u8], k: usize) -> bool
     requires { Matched tree.now owners.now × (k ≤ 15 * length tree.now) }
     ensures { Says result (HasOwner tree.now owners.now k) }
 {
-    if owners[k] >= 64 {
-        return false;
-    }
-    if bitmap_tree::read(tree, tree.len() + k) == 0 {
-        true
-    } else {
-        false
-    }
+    owners[k] < 64 && bitmap_tree::read(tree, tree.len() + k) == 0
 }
 
 // The first frame from a up to b that some client owns, or b.
@@ -82,12 +67,10 @@ pub fn unowned_until(tree: &[u16], owners: &[u8], a: usize, b: usize) -> usize
     requires { Matched tree.now owners.now × (a ≤ b) × (b ≤ 15 * length tree.now + 1) }
     ensures { Stops (Unowned tree.now owners.now) a b result }
 {
-    let mut k = a;
-    while k < b {
+    for k in a..b {
         if has_owner(tree, owners, k) {
             return k;
         }
-        k += 1;
     }
-    k
+    b
 }

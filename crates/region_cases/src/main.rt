@@ -135,7 +135,7 @@ fn multiples(out: &mut impl Write) -> io::Result<()> {
 // change is seen.
 fn changes(out: &mut impl Write) -> io::Result<()> {
     let mut words = [7u64; 11];
-    memory_set_changes::clear(&mut words, 1, 2);
+    let _ = memory_set_changes::clear(&mut words, 1, 2);
     sets::insert(
         out,
         &mut words,

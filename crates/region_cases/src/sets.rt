@@ -5,19 +5,9 @@ use address::Region;
 use std::io;
 use std::io::Write;
 
-// Whether two memories hold the same words.
-fn same(a: &[u64; 11], b: &[u64; 11]) -> bool {
-    for i in 0..11 {
-        if a[i] != b[i] {
-            return false;
-        }
-    }
-    true
-}
-
 // Prints whether a word changed, and ends the line.
 fn change(out: &mut impl Write, old: &[u64; 11], words: &[u64; 11]) -> io::Result<()> {
-    if same(old, words) {
+    if old == words {
         say(out, b", no word changed\n")
     } else {
         say(out, b", words changed\n")

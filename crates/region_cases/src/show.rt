@@ -1,6 +1,6 @@
 // Answers in print.
-use address::{End, Fault, Translated};
-use memory_set_changes::{Inserted, TakenOut};
+use address::{Fault, Region, Untranslated};
+use memory_set_changes::NotRemoved;
 use set_claims::NotInserted;
 use std::io;
 use std::io::Write;
@@ -26,26 +26,25 @@ pub fn yes(out: &mut impl Write, is_so: bool) -> io::Result<()> {
 }
 
 // Prints an end, and ends the line.
-pub fn end(out: &mut impl Write, e: End) -> io::Result<()> {
+pub fn end(out: &mut impl Write, e: Option<u64>) -> io::Result<()> {
     match e {
-        End::At(addr) => number(out, addr),
-        End::Beyond => say(out, b"beyond\n"),
+        Some(addr) => number(out, addr),
+        None => say(out, b"beyond\n"),
     }
 }
 
 // Prints a host address, and ends the line.
-pub fn translated(out: &mut impl Write, t: Translated) -> io::Result<()> {
+pub fn translated(out: &mut impl Write, t: Result<u64, Untranslated>) -> io::Result<()> {
     match t {
-        Translated::Host(addr) => number(out, addr),
-        Translated::Outside => say(out, b"outside\n"),
-        Translated::Beyond => say(out, b"beyond\n"),
+        Ok(addr) => number(out, addr),
+        Err(Untranslated::Outside) => say(out, b"outside\n"),
+        Err(Untranslated::Beyond) => say(out, b"beyond\n"),
     }
 }
 
 // Prints which condition of a valid region is broken.
 fn fault(out: &mut impl Write, f: Fault) -> io::Result<()> {
     match f {
-        Fault::Nothing => say(out, b"nothing"),
         Fault::NoPage => say(out, b"no page"),
         Fault::GuestStart => say(out, b"guest start"),
         Fault::HostStart => say(out, b"host start"),
@@ -68,18 +67,18 @@ fn not_inserted(out: &mut impl Write, why: NotInserted) -> io::Result<()> {
 }
 
 // Prints whether a region went in.
-pub fn inserted(out: &mut impl Write, a: Inserted) -> io::Result<()> {
+pub fn inserted(out: &mut impl Write, a: Result<(), NotInserted>) -> io::Result<()> {
     match a {
-        Inserted::Done => say(out, b"done"),
-        Inserted::No(why) => not_inserted(out, why),
+        Ok(()) => say(out, b"done"),
+        Err(why) => not_inserted(out, why),
     }
 }
 
 // Prints whether a region went out.
-pub fn taken_out(out: &mut impl Write, a: TakenOut) -> io::Result<()> {
+pub fn taken_out(out: &mut impl Write, a: Result<Region, NotRemoved>) -> io::Result<()> {
     match a {
-        TakenOut::Was(_) => say(out, b"done"),
-        TakenOut::NotThere => say(out, b"not there"),
-        TakenOut::Bad(_) => say(out, b"no set"),
+        Ok(_) => say(out, b"done"),
+        Err(NotRemoved::NotThere) => say(out, b"not there"),
+        Err(NotRemoved::Bad(_)) => say(out, b"no set"),
     }
 }

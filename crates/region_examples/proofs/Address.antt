@@ -4,10 +4,10 @@ use mathlib.Core.Bool.{true, false}
 use Prim.Native.Nat.{ℕ, ◌/◌}
 use native.Mathlib.Omega.{arith}
 use lib.Dec.{lit<, lit≤}
+use Rattle.std.specs.Prelude.{Ok, Err, Some, None}
 use Rattle.base.specs.Says.{Says}
-use Rattle.address.specs.declared.End.{End}
 use Rattle.address.specs.declared.Fault.{Fault}
-use Rattle.address.specs.declared.Translated.{Translated}
+use Rattle.address.specs.declared.Untranslated.{Untranslated}
 use Rattle.address.specs.Pages.{Multiple, EndSays, Contains, Share}
 use Rattle.address.specs.Regions.{Valid, ValiditySays, TranslateSays}
 use Rattle.region_examples.proofs.Regions.{page, next, empty, guest_off, host_off, guest_high, host_high, page_valid, guest_high_on, host_high_on, empty_not}
@@ -27,22 +27,22 @@ aligned_false m = let e = m.is in omega arith
 
 -- ---- validity
 
-pub validity_nothing : ValiditySays page.guest page.host page.pages Fault.Nothing
-validity_nothing = page_valid
+pub validity_ok : ValiditySays page.guest page.host page.pages (Ok tt)
+validity_ok = page_valid
 
-pub validity_no_page : ValiditySays empty.guest empty.host empty.pages Fault.NoPage
+pub validity_no_page : ValiditySays empty.guest empty.host empty.pages (Err Fault.NoPage)
 validity_no_page = refl
 
-pub validity_guest_start : ValiditySays guest_off.guest guest_off.host guest_off.pages Fault.GuestStart
+pub validity_guest_start : ValiditySays guest_off.guest guest_off.host guest_off.pages (Err Fault.GuestStart)
 validity_guest_start = (lit< tt, λ e. omega (arith, e))
 
-pub validity_host_start : ValiditySays host_off.guest host_off.host host_off.pages Fault.HostStart
+pub validity_host_start : ValiditySays host_off.guest host_off.host host_off.pages (Err Fault.HostStart)
 validity_host_start = (lit< tt, refl, λ e. omega (arith, e))
 
-pub validity_guest_end : ValiditySays guest_high.guest guest_high.host guest_high.pages Fault.GuestEnd
+pub validity_guest_end : ValiditySays guest_high.guest guest_high.host guest_high.pages (Err Fault.GuestEnd)
 validity_guest_end = (guest_high_on, λ f. omega (arith, f))
 
-pub validity_host_end : ValiditySays host_high.guest host_high.host host_high.pages Fault.HostEnd
+pub validity_host_end : ValiditySays host_high.guest host_high.host host_high.pages (Err Fault.HostEnd)
 validity_host_end = (host_high_on, lit< tt, λ f. omega (arith, f))
 
 -- ---- valid
@@ -55,17 +55,17 @@ valid_false = empty_not
 
 -- ---- vend and pend
 
-pub vend_at : EndSays page.guest page.pages (End.At 4096)
-vend_at = (lit< tt, refl)
+pub vend_some : EndSays page.guest page.pages (Some 4096)
+vend_some = (lit< tt, refl)
 
-pub vend_beyond : EndSays guest_high.guest guest_high.pages End.Beyond
-vend_beyond f = omega (arith, f)
+pub vend_none : EndSays guest_high.guest guest_high.pages None
+vend_none f = omega (arith, f)
 
-pub pend_at : EndSays page.host page.pages (End.At 8192)
-pend_at = (lit< tt, refl)
+pub pend_some : EndSays page.host page.pages (Some 8192)
+pend_some = (lit< tt, refl)
 
-pub pend_beyond : EndSays host_high.host host_high.pages End.Beyond
-pend_beyond f = omega (arith, f)
+pub pend_none : EndSays host_high.host host_high.pages None
+pend_none f = omega (arith, f)
 
 -- ---- overlaps_vmem and overlaps_pmem
 
@@ -91,12 +91,12 @@ contains_false c = let h = c.high in omega arith
 
 -- ---- translate
 
-pub translate_host : TranslateSays page.guest page.host page.pages 5 (Translated.Host 4101)
-translate_host = (record { low = lit≤ tt; high = lit< tt }, refl)
+pub translate_ok : TranslateSays page.guest page.host page.pages 5 (Ok 4101)
+translate_ok = (record { low = lit≤ tt; high = lit< tt }, refl)
 
-pub translate_outside : TranslateSays page.guest page.host page.pages 4096 Translated.Outside
+pub translate_outside : TranslateSays page.guest page.host page.pages 4096 (Err Untranslated.Outside)
 translate_outside = contains_false
 
 -- the second of two pages, of which the first is the host's last
-pub translate_beyond : TranslateSays 0 18446744073709547520 2 4096 Translated.Beyond
+pub translate_beyond : TranslateSays 0 18446744073709547520 2 4096 (Err Untranslated.Beyond)
 translate_beyond = (record { low = lit≤ tt; high = lit< tt }, lit≤ tt)

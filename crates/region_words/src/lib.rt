@@ -1,6 +1,6 @@
 // A region in memory: four words, which are its guest start, its host start, its pages, and its flags,
 // of which there is the kind so far, as a number. This crate alone knows these words.
-#![tactic(auto)]
+#![tactic(auto, unfolding(crate::specs::Words::kind_of, crate::specs::Words::number_of, crate::specs::Words::region_of))]
 
 ghost use Rattle.std.specs.Prelude.{◌≡◌, ◌+◌, ◌≤◌, length};
 ghost use Rattle.base.specs.Says.{Says};
@@ -8,20 +8,18 @@ ghost use Rattle.region_words.specs.Words.{kind_of, number_of, region_of, HasReg
 
 use address::{Kind, Region};
 
-// The kind with a number.
+// The kind with a number. Not a TryFrom, since every number is taken: the last kind stands for all others.
 pub fn kind_of(w: u64) -> Kind
     ensures { result ≡ kind_of w }
 {
-    if w == 0 {
-        return Kind::Ordinary;
+    match w {
+        0 => Kind::Ordinary,
+        1 => Kind::Device,
+        _ => Kind::Shared,
     }
-    if w == 1 {
-        return Kind::Device;
-    }
-    Kind::Shared
 }
 
-// The number of a kind.
+// The number of a kind. Not a From beside Kind, since this crate alone knows these words.
 pub fn number_of(k: Kind) -> u64
     ensures { result ≡ number_of k }
 {
@@ -37,12 +35,11 @@ pub fn get(t: &[u64], at: usize) -> Region
     requires { at + 4 ≤ length t.now }
     ensures { result ≡ region_of t.now at }
 {
-    let kind = kind_of(t[at + 3]);
     Region {
         guest: t[at],
         host: t[at + 1],
         pages: t[at + 2],
-        kind: kind,
+        kind: kind_of(t[at + 3]),
     }
 }
 
@@ -51,33 +48,10 @@ pub fn put(t: &mut [u64], at: usize, r: Region)
     requires { at + 4 ≤ length t.old }
     ensures { Put t.old at r t.new }
 {
-    let kind = r.kind;
-    let flags = number_of(kind);
     t[at] = r.guest;
     t[at + 1] = r.host;
     t[at + 2] = r.pages;
-    t[at + 3] = flags;
-}
-
-// Whether two regions are the same in every field.
-pub fn same(a: Region, b: Region) -> bool
-    ensures { Says result (a ≡ b) }
-{
-    if a.guest != b.guest {
-        return false;
-    }
-    if a.host != b.host {
-        return false;
-    }
-    if a.pages != b.pages {
-        return false;
-    }
-    let k = a.kind;
-    let l = b.kind;
-    if number_of(k) != number_of(l) {
-        return false;
-    }
-    true
+    t[at + 3] = number_of(r.kind);
 }
 
 // Whether the four words from `at` on are those of r.
@@ -85,18 +59,8 @@ pub fn holds(t: &[u64], at: usize, r: Region) -> bool
     requires { at + 4 ≤ length t.now }
     ensures { Says result (HasRegion t.now at r) }
 {
-    if t[at] != r.guest {
-        return false;
-    }
-    if t[at + 1] != r.host {
-        return false;
-    }
-    if t[at + 2] != r.pages {
-        return false;
-    }
-    let kind = r.kind;
-    if t[at + 3] != number_of(kind) {
-        return false;
-    }
-    true
+    t[at] == r.guest
+        && t[at + 1] == r.host
+        && t[at + 2] == r.pages
+        && t[at + 3] == number_of(r.kind)
 }

@@ -1,58 +1,58 @@
 -- What the exported functions of the bitmap say: that the bitmap's own function could have answered something of which the result is the
 -- code, and what stands behind the pointer its value. Assumes nothing.
-use Rattle.std.specs.Prelude.{List, ℕ}
-use Rattle.bitmap_allocator.specs.declared.Wiped.{Wiped}
-use Rattle.bitmap_allocator.specs.declared.Allocated.{Allocated}
-use Rattle.bitmap_allocator.specs.declared.RunTaken.{RunTaken}
-use Rattle.bitmap_allocator.specs.declared.Freed.{Freed}
-use Rattle.bitmap_allocator.specs.declared.Ranged.{Ranged}
+use Rattle.std.specs.Prelude.{List, ℕ, Result, Ok, Err}
+use Rattle.bitmap_tree.specs.declared.NotFull.{NotFull}
+use Rattle.bitmap_allocator.specs.declared.NotAllocated.{NotAllocated}
+use Rattle.bitmap_allocator.specs.declared.RunNotTaken.{RunNotTaken}
+use Rattle.bitmap_allocator.specs.declared.NotFreed.{NotFreed}
+use Rattle.bitmap_allocator.specs.declared.BadRange.{BadRange}
 use Rattle.bitmap_allocator.specs.Changes.{ResetSays, AllocSays, RunSays, DeallocSays, RangeSays}
 use Rattle.codes.specs.Codes.{Coded, Valued, done, not_full, outside, empty, reversed, no_room, not_taken, corrupt}
 
 -- ---- the code and the value of each answer
 
-abbrev pub reset_code : Wiped → ℕ
-reset_code Wiped.Done = done
-reset_code Wiped.NotFull = not_full
+abbrev pub reset_code : Result Unit NotFull → ℕ
+reset_code (Ok _) = done
+reset_code (Err _) = not_full
 
-abbrev pub alloc_code : Allocated → ℕ
-alloc_code (Allocated.Frame k) = done
-alloc_code Allocated.NoRoom = no_room
-alloc_code Allocated.Corrupt = corrupt
-alloc_code Allocated.NotFull = not_full
+abbrev pub alloc_code : Result ℕ NotAllocated → ℕ
+alloc_code (Ok k) = done
+alloc_code (Err NotAllocated.NoRoom) = no_room
+alloc_code (Err NotAllocated.Corrupt) = corrupt
+alloc_code (Err NotAllocated.NotFull) = not_full
 
-abbrev pub alloc_value : Allocated → ℕ → ℕ
-alloc_value (Allocated.Frame k) old = k
-alloc_value Allocated.NoRoom old = old
-alloc_value Allocated.Corrupt old = old
-alloc_value Allocated.NotFull old = old
+abbrev pub alloc_value : Result ℕ NotAllocated → ℕ → ℕ
+alloc_value (Ok k) old = k
+alloc_value (Err NotAllocated.NoRoom) old = old
+alloc_value (Err NotAllocated.Corrupt) old = old
+alloc_value (Err NotAllocated.NotFull) old = old
 
-abbrev pub run_code : RunTaken → ℕ
-run_code (RunTaken.At s) = done
-run_code RunTaken.NoRoom = no_room
-run_code RunTaken.Corrupt = corrupt
-run_code RunTaken.Empty = empty
-run_code RunTaken.NotFull = not_full
+abbrev pub run_code : Result ℕ RunNotTaken → ℕ
+run_code (Ok s) = done
+run_code (Err RunNotTaken.NoRoom) = no_room
+run_code (Err RunNotTaken.Corrupt) = corrupt
+run_code (Err RunNotTaken.Empty) = empty
+run_code (Err RunNotTaken.NotFull) = not_full
 
-abbrev pub run_value : RunTaken → ℕ → ℕ
-run_value (RunTaken.At s) old = s
-run_value RunTaken.NoRoom old = old
-run_value RunTaken.Corrupt old = old
-run_value RunTaken.Empty old = old
-run_value RunTaken.NotFull old = old
+abbrev pub run_value : Result ℕ RunNotTaken → ℕ → ℕ
+run_value (Ok s) old = s
+run_value (Err RunNotTaken.NoRoom) old = old
+run_value (Err RunNotTaken.Corrupt) old = old
+run_value (Err RunNotTaken.Empty) old = old
+run_value (Err RunNotTaken.NotFull) old = old
 
-abbrev pub dealloc_code : Freed → ℕ
-dealloc_code Freed.Done = done
-dealloc_code Freed.NotTaken = not_taken
-dealloc_code Freed.Outside = outside
-dealloc_code Freed.NotFull = not_full
+abbrev pub dealloc_code : Result Unit NotFreed → ℕ
+dealloc_code (Ok _) = done
+dealloc_code (Err NotFreed.NotTaken) = not_taken
+dealloc_code (Err NotFreed.Outside) = outside
+dealloc_code (Err NotFreed.NotFull) = not_full
 
-abbrev pub range_code : Ranged → ℕ
-range_code Ranged.Done = done
-range_code Ranged.Empty = empty
-range_code Ranged.Reversed = reversed
-range_code Ranged.Outside = outside
-range_code Ranged.NotFull = not_full
+abbrev pub range_code : Result Unit BadRange → ℕ
+range_code (Ok _) = done
+range_code (Err BadRange.Empty) = empty
+range_code (Err BadRange.Reversed) = reversed
+range_code (Err BadRange.Outside) = outside
+range_code (Err BadRange.NotFull) = not_full
 
 -- ---- the functions: old and new stand behind the pointer before and after, and r is the result
 

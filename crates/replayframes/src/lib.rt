@@ -6,7 +6,8 @@
 ghost use Rattle.std.specs.Prelude.{◌≡◌};
 ghost use Rattle.replayframes.specs.Bitmap.{range_code, ResetCode, AllocCode, RunCode, DeallocCode, InsertCode, RemoveCode};
 
-use bitmap_allocator::{Allocated, Freed, Ranged, RunTaken, Wiped};
+use bitmap_allocator::{BadRange, NotAllocated, NotFreed, RunNotTaken};
+use bitmap_tree::NotFull;
 use codes::{
     RF_CORRUPT, RF_DONE, RF_EMPTY, RF_NO_ROOM, RF_NOT_FULL, RF_NOT_TAKEN, RF_OUTSIDE, RF_REVERSED,
 };
@@ -17,8 +18,8 @@ pub extern "C" fn rf_bitmap_reset(tree: &mut [u16]) -> u32
     ensures { ResetCode tree.old tree.new result }
 {
     match bitmap_allocator::reset(tree) {
-        Wiped::Done => RF_DONE,
-        Wiped::NotFull => RF_NOT_FULL,
+        Ok(()) => RF_DONE,
+        Err(NotFull) => RF_NOT_FULL,
     }
 }
 
@@ -28,13 +29,13 @@ pub extern "C" fn rf_bitmap_alloc(tree: &mut [u16], frame: &mut usize) -> u32
     ensures { AllocCode tree.old tree.new frame.old frame.new result }
 {
     match bitmap_allocator::alloc(tree) {
-        Allocated::Frame(k) => {
+        Ok(k) => {
             *frame = k;
             RF_DONE
         }
-        Allocated::NoRoom => RF_NO_ROOM,
-        Allocated::Corrupt => RF_CORRUPT,
-        Allocated::NotFull => RF_NOT_FULL,
+        Err(NotAllocated::NoRoom) => RF_NO_ROOM,
+        Err(NotAllocated::Corrupt) => RF_CORRUPT,
+        Err(NotAllocated::NotFull) => RF_NOT_FULL,
     }
 }
 
@@ -50,14 +51,14 @@ pub extern "C" fn rf_bitmap_alloc_contiguous(
     ensures { RunCode tree.old size align_log2 tree.new frame.old frame.new result }
 {
     match bitmap_allocator::alloc_contiguous(tree, size, align_log2) {
-        RunTaken::At(s) => {
+        Ok(s) => {
             *frame = s;
             RF_DONE
         }
-        RunTaken::NoRoom => RF_NO_ROOM,
-        RunTaken::Corrupt => RF_CORRUPT,
-        RunTaken::Empty => RF_EMPTY,
-        RunTaken::NotFull => RF_NOT_FULL,
+        Err(RunNotTaken::NoRoom) => RF_NO_ROOM,
+        Err(RunNotTaken::Corrupt) => RF_CORRUPT,
+        Err(RunNotTaken::Empty) => RF_EMPTY,
+        Err(RunNotTaken::NotFull) => RF_NOT_FULL,
     }
 }
 
@@ -67,10 +68,10 @@ pub extern "C" fn rf_bitmap_dealloc(tree: &mut [u16], k: usize) -> u32
     ensures { DeallocCode tree.old k tree.new result }
 {
     match bitmap_allocator::dealloc(tree, k) {
-        Freed::Done => RF_DONE,
-        Freed::NotTaken => RF_NOT_TAKEN,
-        Freed::Outside => RF_OUTSIDE,
-        Freed::NotFull => RF_NOT_FULL,
+        Ok(()) => RF_DONE,
+        Err(NotFreed::NotTaken) => RF_NOT_TAKEN,
+        Err(NotFreed::Outside) => RF_OUTSIDE,
+        Err(NotFreed::NotFull) => RF_NOT_FULL,
     }
 }
 
@@ -91,14 +92,14 @@ pub extern "C" fn rf_bitmap_remove(tree: &mut [u16], from: usize, to: usize) -> 
 }
 
 // The reason of a range of frames.
-fn range_code(answer: Ranged) -> u32
+fn range_code(answer: Result<(), BadRange>) -> u32
     ensures { result ≡ range_code answer }
 {
     match answer {
-        Ranged::Done => RF_DONE,
-        Ranged::Empty => RF_EMPTY,
-        Ranged::Reversed => RF_REVERSED,
-        Ranged::Outside => RF_OUTSIDE,
-        Ranged::NotFull => RF_NOT_FULL,
+        Ok(()) => RF_DONE,
+        Err(BadRange::Empty) => RF_EMPTY,
+        Err(BadRange::Reversed) => RF_REVERSED,
+        Err(BadRange::Outside) => RF_OUTSIDE,
+        Err(BadRange::NotFull) => RF_NOT_FULL,
     }
 }

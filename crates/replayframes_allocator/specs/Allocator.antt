@@ -1,21 +1,21 @@
 -- What the exported functions of the shared allocator say: that the allocator's own function could have answered something of which the
 -- result is the code, and what stands behind the pointer its value. Assumes nothing.
-use Rattle.std.specs.Prelude.{List, ℕ}
+use Rattle.std.specs.Prelude.{List, ℕ, ⊤, Result, Ok, Err}
 use Rattle.codes.specs.Codes.{Coded, Valued, done, outside, corrupt, bad_base, no_client, below, not_at_frame, too_many, too_high, wrong}
 use Rattle.reason_codes.specs.Reasons.{unfit_code, no_frame_code, no_run_code, not_freed_code, run_not_freed_code, run_not_freed_at, not_changed_code, not_changed_at}
-use Rattle.global_allocator.specs.declared.Numbered.{Numbered}
-use Rattle.global_allocator.specs.declared.Located.{Located}
+use Rattle.claims.specs.declared.NoFrame.{NoFrame}
+use Rattle.claims.specs.declared.NoRun.{NoRun}
+use Rattle.claims.specs.declared.NotFreed.{NotFreed}
+use Rattle.claims.specs.declared.RunNotFreed.{RunNotFreed}
+use Rattle.claims.specs.declared.NotChanged.{NotChanged}
+use Rattle.global_allocator.specs.declared.NoFid.{NoFid}
+use Rattle.global_allocator.specs.declared.NoPaddr.{NoPaddr}
 use Rattle.allocator_pool.specs.declared.FrameState.{FrameState}
-use Rattle.allocator_pool.specs.declared.Counted.{Counted}
-use Rattle.allocator_pool.specs.declared.Checked.{Checked}
-use Rattle.allocator_pool.specs.declared.Started.{Started}
-use Rattle.global_allocator.specs.declared.Allocated.{Allocated}
-use Rattle.global_allocator.specs.declared.RunAllocated.{RunAllocated}
-use Rattle.global_allocator.specs.declared.Freed.{Freed}
-use Rattle.global_allocator.specs.declared.RunFreed.{RunFreed}
-use Rattle.allocator_pool.specs.declared.Inserted.{Inserted}
-use Rattle.allocator_pool.specs.declared.Removed.{Removed}
-use Rattle.allocator_pool.specs.declared.Released.{Released}
+use Rattle.allocator_pool.specs.declared.NoState.{NoState}
+use Rattle.allocator_pool.specs.declared.BadClient.{BadClient}
+use Rattle.allocator_pool.specs.declared.Unaccounted.{Unaccounted}
+use Rattle.allocator_pool.specs.declared.NotStarted.{NotStarted}
+use Rattle.allocator_pool.specs.declared.NotInserted.{NotInserted}
 use Rattle.global_allocator.specs.Addresses.{FidSays, PaddrSays}
 use Rattle.allocator_pool.specs.Looks.{OwnerSays, CountSays, CheckSays}
 use Rattle.allocator_pool.specs.Changes.{InitSays, InsertSays, RemoveSays, ReleaseSays}
@@ -23,120 +23,116 @@ use Rattle.global_allocator.specs.Changes.{AllocSays, RunSays, DeallocSays, Deal
 
 -- ---- the code and the value of each answer
 
-abbrev pub fid_code : Numbered → ℕ
-fid_code (Numbered.Frame k) = done
-fid_code Numbered.BadBase = bad_base
-fid_code Numbered.Below = below
-fid_code Numbered.NotAtFrame = not_at_frame
+abbrev pub fid_code : Result ℕ NoFid → ℕ
+fid_code (Ok k) = done
+fid_code (Err NoFid.BadBase) = bad_base
+fid_code (Err NoFid.Below) = below
+fid_code (Err NoFid.NotAtFrame) = not_at_frame
 
-abbrev pub fid_value : Numbered → ℕ → ℕ
-fid_value (Numbered.Frame k) old = k
-fid_value Numbered.BadBase old = old
-fid_value Numbered.Below old = old
-fid_value Numbered.NotAtFrame old = old
+abbrev pub fid_value : Result ℕ NoFid → ℕ → ℕ
+fid_value (Ok k) old = k
+fid_value (Err why) old = old
 
-abbrev pub paddr_code : Located → ℕ
-paddr_code (Located.At at) = done
-paddr_code Located.BadBase = bad_base
-paddr_code Located.TooHigh = too_high
+abbrev pub paddr_code : Result ℕ NoPaddr → ℕ
+paddr_code (Ok at) = done
+paddr_code (Err NoPaddr.BadBase) = bad_base
+paddr_code (Err NoPaddr.TooHigh) = too_high
 
-abbrev pub paddr_value : Located → ℕ → ℕ
-paddr_value (Located.At at) old = at
-paddr_value Located.BadBase old = old
-paddr_value Located.TooHigh old = old
+abbrev pub paddr_value : Result ℕ NoPaddr → ℕ → ℕ
+paddr_value (Ok at) old = at
+paddr_value (Err why) old = old
 
-abbrev pub owner_code : FrameState → ℕ
-owner_code FrameState.Free = done
-owner_code FrameState.Reserved = done
-owner_code (FrameState.Client c) = done
-owner_code FrameState.Outside = outside
-owner_code (FrameState.Unfit why) = unfit_code why
+abbrev pub owner_code : Result FrameState NoState → ℕ
+owner_code (Ok s) = done
+owner_code (Err NoState.Outside) = outside
+owner_code (Err (NoState.Unfit why)) = unfit_code why
 
-abbrev pub owner_value : FrameState → ℕ → ℕ
-owner_value FrameState.Free old = 64
-owner_value FrameState.Reserved old = 65
-owner_value (FrameState.Client c) old = c
-owner_value FrameState.Outside old = old
-owner_value (FrameState.Unfit why) old = old
+abbrev pub state_value : FrameState → ℕ
+state_value FrameState.Free = 64
+state_value FrameState.Reserved = 65
+state_value (FrameState.Client c) = c
 
-abbrev pub count_code : Counted → ℕ
-count_code (Counted.Frames n) = done
-count_code Counted.NoClient = no_client
-count_code (Counted.Unfit why) = unfit_code why
+abbrev pub owner_value : Result FrameState NoState → ℕ → ℕ
+owner_value (Ok s) old = state_value s
+owner_value (Err why) old = old
 
-abbrev pub count_value : Counted → ℕ → ℕ
-count_value (Counted.Frames n) old = n
-count_value Counted.NoClient old = old
-count_value (Counted.Unfit why) old = old
+abbrev pub count_code : Result ℕ BadClient → ℕ
+count_code (Ok n) = done
+count_code (Err BadClient.NoClient) = no_client
+count_code (Err (BadClient.Unfit why)) = unfit_code why
 
-abbrev pub check_code : Checked → ℕ
-check_code Checked.Accounted = done
-check_code (Checked.Lie p) = corrupt
-check_code (Checked.Wrong k) = wrong
-check_code (Checked.Unfit why) = unfit_code why
+abbrev pub count_value : Result ℕ BadClient → ℕ → ℕ
+count_value (Ok n) old = n
+count_value (Err why) old = old
 
-abbrev pub check_value : Checked → ℕ → ℕ
-check_value Checked.Accounted old = old
-check_value (Checked.Lie p) old = p
-check_value (Checked.Wrong k) old = k
-check_value (Checked.Unfit why) old = old
+abbrev pub check_code : Result ⊤ Unaccounted → ℕ
+check_code (Ok _) = done
+check_code (Err (Unaccounted.Lie p)) = corrupt
+check_code (Err (Unaccounted.Wrong k)) = wrong
+check_code (Err (Unaccounted.Unfit why)) = unfit_code why
 
-abbrev pub init_code : Started → ℕ
-init_code Started.Done = done
-init_code Started.TooMany = too_many
-init_code Started.TooHigh = too_high
-init_code (Started.Unfit why) = unfit_code why
+abbrev pub check_value : Result ⊤ Unaccounted → ℕ → ℕ
+check_value (Ok _) old = old
+check_value (Err (Unaccounted.Lie p)) old = p
+check_value (Err (Unaccounted.Wrong k)) old = k
+check_value (Err (Unaccounted.Unfit why)) old = old
 
-abbrev pub alloc_code : Allocated → ℕ
-alloc_code (Allocated.At at) = done
-alloc_code (Allocated.No why) = no_frame_code why
+abbrev pub init_code : Result ⊤ NotStarted → ℕ
+init_code (Ok _) = done
+init_code (Err NotStarted.TooMany) = too_many
+init_code (Err NotStarted.TooHigh) = too_high
+init_code (Err (NotStarted.Unfit why)) = unfit_code why
 
-abbrev pub alloc_value : Allocated → ℕ → ℕ
-alloc_value (Allocated.At at) old = at
-alloc_value (Allocated.No why) old = old
+abbrev pub alloc_code : Result ℕ NoFrame → ℕ
+alloc_code (Ok at) = done
+alloc_code (Err why) = no_frame_code why
 
-abbrev pub run_code : RunAllocated → ℕ
-run_code (RunAllocated.At at) = done
-run_code (RunAllocated.No why) = no_run_code why
+abbrev pub alloc_value : Result ℕ NoFrame → ℕ → ℕ
+alloc_value (Ok at) old = at
+alloc_value (Err why) old = old
 
-abbrev pub run_value : RunAllocated → ℕ → ℕ
-run_value (RunAllocated.At at) old = at
-run_value (RunAllocated.No why) old = old
+abbrev pub run_code : Result ℕ NoRun → ℕ
+run_code (Ok at) = done
+run_code (Err why) = no_run_code why
 
-abbrev pub dealloc_code : Freed → ℕ
-dealloc_code Freed.Done = done
-dealloc_code (Freed.No why) = not_freed_code why
+abbrev pub run_value : Result ℕ NoRun → ℕ → ℕ
+run_value (Ok at) old = at
+run_value (Err why) old = old
 
-abbrev pub dealloc_run_code : RunFreed → ℕ
-dealloc_run_code RunFreed.Done = done
-dealloc_run_code (RunFreed.No why) = run_not_freed_code why
+abbrev pub dealloc_code : Result ⊤ NotFreed → ℕ
+dealloc_code (Ok _) = done
+dealloc_code (Err why) = not_freed_code why
 
-abbrev pub dealloc_run_value : RunFreed → ℕ → ℕ
-dealloc_run_value RunFreed.Done old = old
-dealloc_run_value (RunFreed.No why) old = run_not_freed_at why old
+abbrev pub dealloc_run_code : Result ⊤ RunNotFreed → ℕ
+dealloc_run_code (Ok _) = done
+dealloc_run_code (Err why) = run_not_freed_code why
 
-abbrev pub insert_code : Inserted → ℕ
-insert_code Inserted.Done = done
-insert_code Inserted.TooHigh = too_high
-insert_code (Inserted.No why) = not_changed_code why
+abbrev pub dealloc_run_value : Result ⊤ RunNotFreed → ℕ → ℕ
+dealloc_run_value (Ok _) old = old
+dealloc_run_value (Err why) old = run_not_freed_at why old
 
-abbrev pub insert_value : Inserted → ℕ → ℕ
-insert_value Inserted.Done old = old
-insert_value Inserted.TooHigh old = old
-insert_value (Inserted.No why) old = not_changed_at why old
+abbrev pub insert_code : Result ⊤ NotInserted → ℕ
+insert_code (Ok _) = done
+insert_code (Err NotInserted.TooHigh) = too_high
+insert_code (Err (NotInserted.No why)) = not_changed_code why
 
-abbrev pub remove_code : Removed → ℕ
-remove_code Removed.Done = done
-remove_code (Removed.No why) = not_changed_code why
+abbrev pub insert_value : Result ⊤ NotInserted → ℕ → ℕ
+insert_value (Ok _) old = old
+insert_value (Err NotInserted.TooHigh) old = old
+insert_value (Err (NotInserted.No why)) old = not_changed_at why old
 
-abbrev pub remove_value : Removed → ℕ → ℕ
-remove_value Removed.Done old = old
-remove_value (Removed.No why) old = not_changed_at why old
+abbrev pub remove_code : Result ⊤ NotChanged → ℕ
+remove_code (Ok _) = done
+remove_code (Err why) = not_changed_code why
 
-abbrev pub release_code : Released → ℕ
-release_code Released.Done = done
-release_code Released.NoClient = no_client
-release_code (Released.Unfit why) = unfit_code why
+abbrev pub remove_value : Result ⊤ NotChanged → ℕ → ℕ
+remove_value (Ok _) old = old
+remove_value (Err why) old = not_changed_at why old
+
+abbrev pub release_code : Result ⊤ BadClient → ℕ
+release_code (Ok _) = done
+release_code (Err BadClient.NoClient) = no_client
+release_code (Err (BadClient.Unfit why)) = unfit_code why
 
 -- ---- what each function says
 

@@ -3,14 +3,15 @@
 // that names no frame leaves alone. Nothing is demanded of the caller beyond the types.
 #![tactic(auto)]
 
-ghost use Rattle.replayframes_allocator.specs.Allocator.{FidCode, PaddrCode, OwnerCode, CountCode, CheckCode, InitCode, AllocCode, RunCode, DeallocCode, DeallocRunCode, InsertCode, RemoveCode, ReleaseCode};
+ghost use Rattle.replayframes_allocator.specs.Allocator.{FidCode, PaddrCode, OwnerCode, CountCode, CheckCode, InitCode};
+ghost use Rattle.replayframes_allocator.specs.Allocator.{AllocCode, RunCode, DeallocCode, DeallocRunCode, InsertCode, RemoveCode, ReleaseCode};
 
-use allocator_pool::{Checked, Counted, FrameState, Inserted, Released, Removed, Started};
+use allocator_pool::{BadClient, FrameState, NoState, NotInserted, NotStarted, Unaccounted};
 use codes::{
     RF_BAD_BASE, RF_BELOW, RF_CORRUPT, RF_DONE, RF_NO_CLIENT, RF_NOT_AT_FRAME, RF_OUTSIDE,
     RF_TOO_HIGH, RF_TOO_MANY, RF_WRONG,
 };
-use global_allocator::{Allocated, Freed, Located, Numbered, RunAllocated, RunFreed};
+use global_allocator::{NoFid, NoPaddr};
 
 // What `rf_allocator_owner` writes for a frame that is free.
 pub const RF_FREE: u8 = 64;
@@ -23,13 +24,13 @@ pub extern "C" fn rf_allocator_fid(base: usize, addr: usize, frame: &mut usize) 
     ensures { FidCode base addr frame.old frame.new result }
 {
     match global_allocator::paddr_to_fid(base, addr) {
-        Numbered::Frame(k) => {
+        Ok(k) => {
             *frame = k;
             RF_DONE
         }
-        Numbered::BadBase => RF_BAD_BASE,
-        Numbered::Below => RF_BELOW,
-        Numbered::NotAtFrame => RF_NOT_AT_FRAME,
+        Err(NoFid::BadBase) => RF_BAD_BASE,
+        Err(NoFid::Below) => RF_BELOW,
+        Err(NoFid::NotAtFrame) => RF_NOT_AT_FRAME,
     }
 }
 
@@ -39,12 +40,12 @@ pub extern "C" fn rf_allocator_paddr(base: usize, k: usize, addr: &mut usize) ->
     ensures { PaddrCode base k addr.old addr.new result }
 {
     match global_allocator::fid_to_paddr(base, k) {
-        Located::At(at) => {
+        Ok(at) => {
             *addr = at;
             RF_DONE
         }
-        Located::BadBase => RF_BAD_BASE,
-        Located::TooHigh => RF_TOO_HIGH,
+        Err(NoPaddr::BadBase) => RF_BAD_BASE,
+        Err(NoPaddr::TooHigh) => RF_TOO_HIGH,
     }
 }
 
@@ -60,20 +61,16 @@ pub extern "C" fn rf_allocator_owner(
     ensures { OwnerCode base tree.now owners.now k owner.old owner.new result }
 {
     match allocator_pool::owner(tree, owners, base, k) {
-        FrameState::Free => {
-            *owner = RF_FREE;
+        Ok(state) => {
+            *owner = match state {
+                FrameState::Free => RF_FREE,
+                FrameState::Reserved => RF_RESERVED,
+                FrameState::Client(c) => c,
+            };
             RF_DONE
         }
-        FrameState::Reserved => {
-            *owner = RF_RESERVED;
-            RF_DONE
-        }
-        FrameState::Client(c) => {
-            *owner = c;
-            RF_DONE
-        }
-        FrameState::Outside => RF_OUTSIDE,
-        FrameState::Unfit(why) => reason_codes::unfit(why),
+        Err(NoState::Outside) => RF_OUTSIDE,
+        Err(NoState::Unfit(why)) => reason_codes::unfit(why),
     }
 }
 
@@ -89,12 +86,12 @@ pub extern "C" fn rf_allocator_owned_count(
     ensures { CountCode base tree.now owners.now client frames.old frames.new result }
 {
     match allocator_pool::owned_count(tree, owners, base, client) {
-        Counted::Frames(n) => {
+        Ok(n) => {
             *frames = n;
             RF_DONE
         }
-        Counted::NoClient => RF_NO_CLIENT,
-        Counted::Unfit(why) => reason_codes::unfit(why),
+        Err(BadClient::NoClient) => RF_NO_CLIENT,
+        Err(BadClient::Unfit(why)) => reason_codes::unfit(why),
     }
 }
 
@@ -110,16 +107,16 @@ pub extern "C" fn rf_allocator_check(
     ensures { CheckCode base tree.now owners.now at.old at.new result }
 {
     match allocator_pool::check(tree, owners, base) {
-        Checked::Accounted => RF_DONE,
-        Checked::Lie(p) => {
+        Ok(()) => RF_DONE,
+        Err(Unaccounted::Lie(p)) => {
             *at = p;
             RF_CORRUPT
         }
-        Checked::Wrong(k) => {
+        Err(Unaccounted::Wrong(k)) => {
             *at = k;
             RF_WRONG
         }
-        Checked::Unfit(why) => reason_codes::unfit(why),
+        Err(Unaccounted::Unfit(why)) => reason_codes::unfit(why),
     }
 }
 
@@ -134,10 +131,10 @@ pub extern "C" fn rf_allocator_init(
     ensures { InitCode base tree.old owners.old n tree.new owners.new result }
 {
     match allocator_pool::init(tree, owners, base, n) {
-        Started::Done => RF_DONE,
-        Started::TooMany => RF_TOO_MANY,
-        Started::TooHigh => RF_TOO_HIGH,
-        Started::Unfit(why) => reason_codes::unfit(why),
+        Ok(()) => RF_DONE,
+        Err(NotStarted::TooMany) => RF_TOO_MANY,
+        Err(NotStarted::TooHigh) => RF_TOO_HIGH,
+        Err(NotStarted::Unfit(why)) => reason_codes::unfit(why),
     }
 }
 
@@ -153,11 +150,11 @@ pub extern "C" fn rf_allocator_alloc(
     ensures { AllocCode base tree.old owners.old client tree.new owners.new addr.old addr.new result }
 {
     match global_allocator::alloc(tree, owners, base, client) {
-        Allocated::At(at) => {
+        Ok(at) => {
             *addr = at;
             RF_DONE
         }
-        Allocated::No(why) => reason_codes::no_frame(why),
+        Err(why) => reason_codes::no_frame(why),
     }
 }
 
@@ -176,11 +173,11 @@ pub extern "C" fn rf_allocator_alloc_contiguous(
     ensures { RunCode base tree.old owners.old client size align_log2 tree.new owners.new addr.old addr.new result }
 {
     match global_allocator::alloc_contiguous(tree, owners, base, client, size, align_log2) {
-        RunAllocated::At(at) => {
+        Ok(at) => {
             *addr = at;
             RF_DONE
         }
-        RunAllocated::No(why) => reason_codes::no_run(why),
+        Err(why) => reason_codes::no_run(why),
     }
 }
 
@@ -196,8 +193,8 @@ pub extern "C" fn rf_allocator_dealloc(
     ensures { DeallocCode base tree.old owners.old client addr tree.new owners.new result }
 {
     match global_allocator::dealloc(tree, owners, base, client, addr) {
-        Freed::Done => RF_DONE,
-        Freed::No(why) => reason_codes::not_freed(why),
+        Ok(()) => RF_DONE,
+        Err(why) => reason_codes::not_freed(why),
     }
 }
 
@@ -216,8 +213,8 @@ pub extern "C" fn rf_allocator_dealloc_contiguous(
     ensures { DeallocRunCode base tree.old owners.old client addr count tree.new owners.new frame.old frame.new result }
 {
     match global_allocator::dealloc_contiguous(tree, owners, base, client, addr, count) {
-        RunFreed::Done => RF_DONE,
-        RunFreed::No(why) => reason_codes::run_not_freed(why, frame),
+        Ok(()) => RF_DONE,
+        Err(why) => reason_codes::run_not_freed(why, frame),
     }
 }
 
@@ -235,9 +232,9 @@ pub extern "C" fn rf_allocator_insert(
     ensures { InsertCode base tree.old owners.old from to tree.new owners.new frame.old frame.new result }
 {
     match allocator_pool::insert(tree, owners, base, from, to) {
-        Inserted::Done => RF_DONE,
-        Inserted::TooHigh => RF_TOO_HIGH,
-        Inserted::No(why) => reason_codes::not_changed(why, frame),
+        Ok(()) => RF_DONE,
+        Err(NotInserted::TooHigh) => RF_TOO_HIGH,
+        Err(NotInserted::No(why)) => reason_codes::not_changed(why, frame),
     }
 }
 
@@ -255,8 +252,8 @@ pub extern "C" fn rf_allocator_remove(
     ensures { RemoveCode base tree.old owners.old from to tree.new owners.new frame.old frame.new result }
 {
     match allocator_pool::remove(tree, owners, base, from, to) {
-        Removed::Done => RF_DONE,
-        Removed::No(why) => reason_codes::not_changed(why, frame),
+        Ok(()) => RF_DONE,
+        Err(why) => reason_codes::not_changed(why, frame),
     }
 }
 
@@ -271,8 +268,8 @@ pub extern "C" fn rf_allocator_release_all(
     ensures { ReleaseCode base tree.old owners.old client tree.new owners.new result }
 {
     match allocator_pool::release_all(tree, owners, base, client) {
-        Released::Done => RF_DONE,
-        Released::NoClient => RF_NO_CLIENT,
-        Released::Unfit(why) => reason_codes::unfit(why),
+        Ok(()) => RF_DONE,
+        Err(BadClient::NoClient) => RF_NO_CLIENT,
+        Err(BadClient::Unfit(why)) => reason_codes::unfit(why),
     }
 }

@@ -13,38 +13,37 @@ ghost use Rattle.hv_state.specs.Serving.{mem};
 ghost use Rattle.replayframes_calls.specs.Calls.{called_code, called_index, called_address, ServeCode};
 
 use codes::{RF_FEW_WORDS, RF_SPARE};
-use hv_serve::Called;
+use hv_calls::Replied;
+use hv_serve::NotServed;
 
 // The code of what is replied to a call.
-fn code_of_call(answer: Called) -> u32
+fn code_of_call(answer: Result<Replied, NotServed>) -> u32
     ensures { result ≡ called_code answer }
 {
     match answer {
-        Called::Replied(said) => reply_words::code_in(said),
-        Called::FewWords => RF_FEW_WORDS,
-        Called::Spare => RF_SPARE,
+        Ok(said) => reply_words::code_in(said),
+        Err(NotServed::FewWords) => RF_FEW_WORDS,
+        Err(NotServed::Spare) => RF_SPARE,
     }
 }
 
 // Which request the reply is of, or `old` where it is of none.
-fn index_of_call(answer: Called, old: u64) -> u64
+fn index_of_call(answer: Result<Replied, NotServed>, old: u64) -> u64
     ensures { result ≡ called_index answer old }
 {
     match answer {
-        Called::Replied(said) => reply_words::index_in(said, old),
-        Called::FewWords => old,
-        Called::Spare => old,
+        Ok(said) => reply_words::index_in(said, old),
+        Err(_) => old,
     }
 }
 
 // The address in the reply, or `old` where there is none.
-fn address_of_call(answer: Called, old: u64) -> u64
+fn address_of_call(answer: Result<Replied, NotServed>, old: u64) -> u64
     ensures { result ≡ called_address answer old }
 {
     match answer {
-        Called::Replied(said) => reply_words::place_in(said, old),
-        Called::FewWords => old,
-        Called::Spare => old,
+        Ok(said) => reply_words::place_in(said, old),
+        Err(_) => old,
     }
 }
 
@@ -67,7 +66,10 @@ pub extern "C" fn rf_serve(
     index: &mut u64,
     address: &mut u64,
 ) -> u32
-    ensures { ServeCode bytes.now answers.old spare_zones.old spare_tree.old spare_owners.old (mem table.now zones.old tree.old owners.old words.old) number (mem table.now zones.new tree.new owners.new words.new) answers.new index.old index.new address.old address.new result }
+    ensures { ServeCode bytes.now answers.old spare_zones.old spare_tree.old spare_owners.old
+        (mem table.now zones.old tree.old owners.old words.old) number
+        (mem table.now zones.new tree.new owners.new words.new) answers.new
+        index.old index.new address.old address.new result }
 {
     let answer = hv_serve::serve(
         table,

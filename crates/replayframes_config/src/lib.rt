@@ -6,7 +6,7 @@
 ghost use Rattle.replayframes_config.specs.Configuration.{CheckCode, LoadCode};
 
 use codes::RF_NO_TABLE;
-use config::{Loaded, Verdict};
+use config::NotLoaded;
 
 // Whether bytes are a configuration that is right: 0, and the number of machines in `first`; or a reason,
 // with its places.
@@ -21,14 +21,14 @@ pub extern "C" fn rf_config_check(
     ensures { CheckCode bytes.now first.new second.new third.new fourth.new result }
 {
     match config::check(bytes) {
-        Verdict::Accepted(n) => {
+        Ok(n) => {
             *first = n;
             *second = 0;
             *third = 0;
             *fourth = 0;
             0
         }
-        Verdict::Refused(r) => {
+        Err(r) => {
             let four = config_codes::numbers_of(r);
             *first = four.first;
             *second = four.second;
@@ -45,8 +45,8 @@ pub extern "C" fn rf_config_load(bytes: &[u8], table: &mut [u64]) -> u32
     ensures { LoadCode bytes.now table.old table.new result }
 {
     match config::load(bytes, table) {
-        Loaded::Done(_) => 0,
-        Loaded::Refused(r) => config_codes::code_of(r),
-        Loaded::NoTable => RF_NO_TABLE,
+        Ok(_) => 0,
+        Err(NotLoaded::Refused(r)) => config_codes::code_of(r),
+        Err(NotLoaded::NoTable) => RF_NO_TABLE,
     }
 }

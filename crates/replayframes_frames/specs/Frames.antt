@@ -1,114 +1,114 @@
 -- What the exported functions of the shared allocator with contents say: that the allocator's own function could have answered something of
 -- which the result is the code, and what stands behind the pointer its value. Assumes nothing.
-use Rattle.std.specs.Prelude.{List, ℕ}
+use Rattle.std.specs.Prelude.{List, ℕ, ⊤, Result, Ok, Err}
 use Rattle.codes.specs.Codes.{Coded, Valued, done, corrupt, no_client, too_high, wrong, unbacked, beyond, dirty}
 use Rattle.reason_codes.specs.Reasons.{unfit_code, no_frame_code, no_run_code, not_freed_code, run_not_freed_code, run_not_freed_at, not_changed_code, not_changed_at}
-use Rattle.frames_pool.specs.declared.Begun.{Begun}
-use Rattle.frames.specs.declared.Given.{Given}
-use Rattle.frames.specs.declared.RunGiven.{RunGiven}
-use Rattle.frames.specs.declared.Returned.{Returned}
-use Rattle.frames.specs.declared.RunReturned.{RunReturned}
-use Rattle.frames_pool.specs.declared.Opened.{Opened}
-use Rattle.frames_pool.specs.declared.Closed.{Closed}
-use Rattle.frames_pool.specs.declared.Left.{Left}
-use Rattle.frames_pool.specs.declared.Looked.{Looked}
+use Rattle.claims.specs.declared.NoFrame.{NoFrame}
+use Rattle.claims.specs.declared.NoRun.{NoRun}
+use Rattle.claims.specs.declared.NotFreed.{NotFreed}
+use Rattle.claims.specs.declared.RunNotFreed.{RunNotFreed}
+use Rattle.frames.specs.declared.NotGiven.{NotGiven}
+use Rattle.frames.specs.declared.NotReturned.{NotReturned}
+use Rattle.frames_pool.specs.declared.NotBegun.{NotBegun}
+use Rattle.frames_pool.specs.declared.NotOpened.{NotOpened}
+use Rattle.frames_pool.specs.declared.NotClosed.{NotClosed}
+use Rattle.frames_pool.specs.declared.NotLeft.{NotLeft}
+use Rattle.frames_pool.specs.declared.Unclean.{Unclean}
 use Rattle.frames_pool.specs.Pool.{InitSays, InsertSays, RemoveSays, ReleaseSays, CheckSays}
 use Rattle.frames.specs.Frames.{AllocSays, RunSays, DeallocSays, DeallocRunSays}
 
 -- ---- the code and the value of each answer
 
-abbrev pub init_code : Begun → ℕ
-init_code Begun.Done = done
-init_code Begun.Unbacked = unbacked
-init_code Begun.TooHigh = too_high
-init_code (Begun.Unfit why) = unfit_code why
+abbrev pub init_code : Result ⊤ NotBegun → ℕ
+init_code (Ok _) = done
+init_code (Err NotBegun.Unbacked) = unbacked
+init_code (Err NotBegun.TooHigh) = too_high
+init_code (Err (NotBegun.Unfit why)) = unfit_code why
 
-abbrev pub alloc_code : Given → ℕ
-alloc_code (Given.At at) = done
-alloc_code Given.Unbacked = unbacked
-alloc_code (Given.No why) = no_frame_code why
+abbrev pub alloc_code : Result ℕ (NotGiven NoFrame) → ℕ
+alloc_code (Ok at) = done
+alloc_code (Err NotGiven.Unbacked) = unbacked
+alloc_code (Err (NotGiven.No why)) = no_frame_code why
 
-abbrev pub alloc_value : Given → ℕ → ℕ
-alloc_value (Given.At at) old = at
-alloc_value Given.Unbacked old = old
-alloc_value (Given.No why) old = old
+abbrev pub alloc_value : Result ℕ (NotGiven NoFrame) → ℕ → ℕ
+alloc_value (Ok at) old = at
+alloc_value (Err e) old = old
 
-abbrev pub run_code : RunGiven → ℕ
-run_code (RunGiven.At at) = done
-run_code RunGiven.Unbacked = unbacked
-run_code (RunGiven.No why) = no_run_code why
+abbrev pub run_code : Result ℕ (NotGiven NoRun) → ℕ
+run_code (Ok at) = done
+run_code (Err NotGiven.Unbacked) = unbacked
+run_code (Err (NotGiven.No why)) = no_run_code why
 
-abbrev pub run_value : RunGiven → ℕ → ℕ
-run_value (RunGiven.At at) old = at
-run_value RunGiven.Unbacked old = old
-run_value (RunGiven.No why) old = old
+abbrev pub run_value : Result ℕ (NotGiven NoRun) → ℕ → ℕ
+run_value (Ok at) old = at
+run_value (Err e) old = old
 
-abbrev pub dealloc_code : Returned → ℕ
-dealloc_code Returned.Done = done
-dealloc_code Returned.Unbacked = unbacked
-dealloc_code Returned.Corrupt = corrupt
-dealloc_code (Returned.No why) = not_freed_code why
+abbrev pub dealloc_code : Result ⊤ (NotReturned NotFreed) → ℕ
+dealloc_code (Ok _) = done
+dealloc_code (Err NotReturned.Unbacked) = unbacked
+dealloc_code (Err NotReturned.Corrupt) = corrupt
+dealloc_code (Err (NotReturned.No why)) = not_freed_code why
 
-abbrev pub dealloc_run_code : RunReturned → ℕ
-dealloc_run_code RunReturned.Done = done
-dealloc_run_code RunReturned.Unbacked = unbacked
-dealloc_run_code RunReturned.Corrupt = corrupt
-dealloc_run_code (RunReturned.No why) = run_not_freed_code why
+abbrev pub dealloc_run_code : Result ⊤ (NotReturned RunNotFreed) → ℕ
+dealloc_run_code (Ok _) = done
+dealloc_run_code (Err NotReturned.Unbacked) = unbacked
+dealloc_run_code (Err NotReturned.Corrupt) = corrupt
+dealloc_run_code (Err (NotReturned.No why)) = run_not_freed_code why
 
-abbrev pub dealloc_run_value : RunReturned → ℕ → ℕ
-dealloc_run_value RunReturned.Done old = old
-dealloc_run_value RunReturned.Unbacked old = old
-dealloc_run_value RunReturned.Corrupt old = old
-dealloc_run_value (RunReturned.No why) old = run_not_freed_at why old
+abbrev pub dealloc_run_value : Result ⊤ (NotReturned RunNotFreed) → ℕ → ℕ
+dealloc_run_value (Ok _) old = old
+dealloc_run_value (Err NotReturned.Unbacked) old = old
+dealloc_run_value (Err NotReturned.Corrupt) old = old
+dealloc_run_value (Err (NotReturned.No why)) old = run_not_freed_at why old
 
-abbrev pub insert_code : Opened → ℕ
-insert_code Opened.Done = done
-insert_code Opened.Unbacked = unbacked
-insert_code Opened.TooHigh = too_high
-insert_code Opened.Beyond = beyond
-insert_code (Opened.No why) = not_changed_code why
+abbrev pub insert_code : Result ⊤ NotOpened → ℕ
+insert_code (Ok _) = done
+insert_code (Err NotOpened.Unbacked) = unbacked
+insert_code (Err NotOpened.TooHigh) = too_high
+insert_code (Err NotOpened.Beyond) = beyond
+insert_code (Err (NotOpened.No why)) = not_changed_code why
 
-abbrev pub insert_value : Opened → ℕ → ℕ
-insert_value Opened.Done old = old
-insert_value Opened.Unbacked old = old
-insert_value Opened.TooHigh old = old
-insert_value Opened.Beyond old = old
-insert_value (Opened.No why) old = not_changed_at why old
+abbrev pub insert_value : Result ⊤ NotOpened → ℕ → ℕ
+insert_value (Ok _) old = old
+insert_value (Err NotOpened.Unbacked) old = old
+insert_value (Err NotOpened.TooHigh) old = old
+insert_value (Err NotOpened.Beyond) old = old
+insert_value (Err (NotOpened.No why)) old = not_changed_at why old
 
-abbrev pub remove_code : Closed → ℕ
-remove_code Closed.Done = done
-remove_code Closed.Unbacked = unbacked
-remove_code (Closed.No why) = not_changed_code why
+abbrev pub remove_code : Result ⊤ NotClosed → ℕ
+remove_code (Ok _) = done
+remove_code (Err NotClosed.Unbacked) = unbacked
+remove_code (Err (NotClosed.No why)) = not_changed_code why
 
-abbrev pub remove_value : Closed → ℕ → ℕ
-remove_value Closed.Done old = old
-remove_value Closed.Unbacked old = old
-remove_value (Closed.No why) old = not_changed_at why old
+abbrev pub remove_value : Result ⊤ NotClosed → ℕ → ℕ
+remove_value (Ok _) old = old
+remove_value (Err NotClosed.Unbacked) old = old
+remove_value (Err (NotClosed.No why)) old = not_changed_at why old
 
-abbrev pub release_code : Left → ℕ
-release_code Left.Done = done
-release_code Left.Unbacked = unbacked
-release_code Left.Corrupt = corrupt
-release_code Left.NoClient = no_client
-release_code (Left.Unfit why) = unfit_code why
+abbrev pub release_code : Result ⊤ NotLeft → ℕ
+release_code (Ok _) = done
+release_code (Err NotLeft.Unbacked) = unbacked
+release_code (Err NotLeft.Corrupt) = corrupt
+release_code (Err NotLeft.NoClient) = no_client
+release_code (Err (NotLeft.Unfit why)) = unfit_code why
 
-abbrev pub check_code : Looked → ℕ
-check_code Looked.Clean = done
-check_code Looked.Unbacked = unbacked
-check_code (Looked.Lie p) = corrupt
-check_code (Looked.Wrong k) = wrong
-check_code (Looked.Beyond k) = beyond
-check_code (Looked.Dirty k) = dirty
-check_code (Looked.Unfit why) = unfit_code why
+abbrev pub check_code : Result ⊤ Unclean → ℕ
+check_code (Ok _) = done
+check_code (Err Unclean.Unbacked) = unbacked
+check_code (Err (Unclean.Lie p)) = corrupt
+check_code (Err (Unclean.Wrong k)) = wrong
+check_code (Err (Unclean.Beyond k)) = beyond
+check_code (Err (Unclean.Dirty k)) = dirty
+check_code (Err (Unclean.Unfit why)) = unfit_code why
 
-abbrev pub check_value : Looked → ℕ → ℕ
-check_value Looked.Clean old = old
-check_value Looked.Unbacked old = old
-check_value (Looked.Lie p) old = p
-check_value (Looked.Wrong k) old = k
-check_value (Looked.Beyond k) old = k
-check_value (Looked.Dirty k) old = k
-check_value (Looked.Unfit why) old = old
+abbrev pub check_value : Result ⊤ Unclean → ℕ → ℕ
+check_value (Ok _) old = old
+check_value (Err Unclean.Unbacked) old = old
+check_value (Err (Unclean.Lie p)) old = p
+check_value (Err (Unclean.Wrong k)) old = k
+check_value (Err (Unclean.Beyond k)) old = k
+check_value (Err (Unclean.Dirty k)) old = k
+check_value (Err (Unclean.Unfit why)) old = old
 
 -- ---- what each function says
 

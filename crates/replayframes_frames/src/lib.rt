@@ -8,8 +8,8 @@ ghost use Rattle.replayframes_frames.specs.Frames.{InitCode, AllocCode, RunCode,
 use codes::{
     RF_BEYOND, RF_CORRUPT, RF_DIRTY, RF_DONE, RF_NO_CLIENT, RF_TOO_HIGH, RF_UNBACKED, RF_WRONG,
 };
-use frames::{Given, Returned, RunGiven, RunReturned};
-use frames_pool::{Begun, Closed, Left, Looked, Opened};
+use frames::{NotGiven, NotReturned};
+use frames_pool::{NotBegun, NotClosed, NotLeft, NotOpened, Unclean};
 
 // Makes the frames with contents free and empty, and all others reserved, whatever the memories held.
 #[unsafe(no_mangle)]
@@ -22,10 +22,10 @@ pub extern "C" fn rf_frames_init(
     ensures { InitCode base tree.old owners.old words.old tree.new owners.new words.new result }
 {
     match frames_pool::init(tree, owners, words, base) {
-        Begun::Done => RF_DONE,
-        Begun::Unbacked => RF_UNBACKED,
-        Begun::TooHigh => RF_TOO_HIGH,
-        Begun::Unfit(why) => reason_codes::unfit(why),
+        Ok(()) => RF_DONE,
+        Err(NotBegun::Unbacked) => RF_UNBACKED,
+        Err(NotBegun::TooHigh) => RF_TOO_HIGH,
+        Err(NotBegun::Unfit(why)) => reason_codes::unfit(why),
     }
 }
 
@@ -42,12 +42,12 @@ pub extern "C" fn rf_frames_alloc(
     ensures { AllocCode base tree.old owners.old words.now client tree.new owners.new addr.old addr.new result }
 {
     match frames::alloc(tree, owners, words, base, client) {
-        Given::At(at) => {
+        Ok(at) => {
             *addr = at;
             RF_DONE
         }
-        Given::Unbacked => RF_UNBACKED,
-        Given::No(why) => reason_codes::no_frame(why),
+        Err(NotGiven::Unbacked) => RF_UNBACKED,
+        Err(NotGiven::No(why)) => reason_codes::no_frame(why),
     }
 }
 
@@ -67,12 +67,12 @@ pub extern "C" fn rf_frames_alloc_contiguous(
     ensures { RunCode base tree.old owners.old words.now client size align_log2 tree.new owners.new addr.old addr.new result }
 {
     match frames::alloc_contiguous(tree, owners, words, base, client, size, align_log2) {
-        RunGiven::At(at) => {
+        Ok(at) => {
             *addr = at;
             RF_DONE
         }
-        RunGiven::Unbacked => RF_UNBACKED,
-        RunGiven::No(why) => reason_codes::no_run(why),
+        Err(NotGiven::Unbacked) => RF_UNBACKED,
+        Err(NotGiven::No(why)) => reason_codes::no_run(why),
     }
 }
 
@@ -89,10 +89,10 @@ pub extern "C" fn rf_frames_dealloc(
     ensures { DeallocCode base tree.old owners.old words.old client addr tree.new owners.new words.new result }
 {
     match frames::dealloc(tree, owners, words, base, client, addr) {
-        Returned::Done => RF_DONE,
-        Returned::Unbacked => RF_UNBACKED,
-        Returned::Corrupt => RF_CORRUPT,
-        Returned::No(why) => reason_codes::not_freed(why),
+        Ok(()) => RF_DONE,
+        Err(NotReturned::Unbacked) => RF_UNBACKED,
+        Err(NotReturned::Corrupt) => RF_CORRUPT,
+        Err(NotReturned::No(why)) => reason_codes::not_freed(why),
     }
 }
 
@@ -112,10 +112,10 @@ pub extern "C" fn rf_frames_dealloc_contiguous(
     ensures { DeallocRunCode base tree.old owners.old words.old client addr count tree.new owners.new words.new frame.old frame.new result }
 {
     match frames::dealloc_contiguous(tree, owners, words, base, client, addr, count) {
-        RunReturned::Done => RF_DONE,
-        RunReturned::Unbacked => RF_UNBACKED,
-        RunReturned::Corrupt => RF_CORRUPT,
-        RunReturned::No(why) => reason_codes::run_not_freed(why, frame),
+        Ok(()) => RF_DONE,
+        Err(NotReturned::Unbacked) => RF_UNBACKED,
+        Err(NotReturned::Corrupt) => RF_CORRUPT,
+        Err(NotReturned::No(why)) => reason_codes::run_not_freed(why, frame),
     }
 }
 
@@ -134,11 +134,11 @@ pub extern "C" fn rf_frames_insert(
     ensures { InsertCode base tree.old owners.old words.old from to tree.new owners.new words.new frame.old frame.new result }
 {
     match frames_pool::insert(tree, owners, words, base, from, to) {
-        Opened::Done => RF_DONE,
-        Opened::Unbacked => RF_UNBACKED,
-        Opened::TooHigh => RF_TOO_HIGH,
-        Opened::Beyond => RF_BEYOND,
-        Opened::No(why) => reason_codes::not_changed(why, frame),
+        Ok(()) => RF_DONE,
+        Err(NotOpened::Unbacked) => RF_UNBACKED,
+        Err(NotOpened::TooHigh) => RF_TOO_HIGH,
+        Err(NotOpened::Beyond) => RF_BEYOND,
+        Err(NotOpened::No(why)) => reason_codes::not_changed(why, frame),
     }
 }
 
@@ -157,9 +157,9 @@ pub extern "C" fn rf_frames_remove(
     ensures { RemoveCode base tree.old owners.old words.now from to tree.new owners.new frame.old frame.new result }
 {
     match frames_pool::remove(tree, owners, words, base, from, to) {
-        Closed::Done => RF_DONE,
-        Closed::Unbacked => RF_UNBACKED,
-        Closed::No(why) => reason_codes::not_changed(why, frame),
+        Ok(()) => RF_DONE,
+        Err(NotClosed::Unbacked) => RF_UNBACKED,
+        Err(NotClosed::No(why)) => reason_codes::not_changed(why, frame),
     }
 }
 
@@ -175,11 +175,11 @@ pub extern "C" fn rf_frames_release_all(
     ensures { ReleaseCode base tree.old owners.old words.old client tree.new owners.new words.new result }
 {
     match frames_pool::release_all(tree, owners, words, base, client) {
-        Left::Done => RF_DONE,
-        Left::Unbacked => RF_UNBACKED,
-        Left::Corrupt => RF_CORRUPT,
-        Left::NoClient => RF_NO_CLIENT,
-        Left::Unfit(why) => reason_codes::unfit(why),
+        Ok(()) => RF_DONE,
+        Err(NotLeft::Unbacked) => RF_UNBACKED,
+        Err(NotLeft::Corrupt) => RF_CORRUPT,
+        Err(NotLeft::NoClient) => RF_NO_CLIENT,
+        Err(NotLeft::Unfit(why)) => reason_codes::unfit(why),
     }
 }
 
@@ -196,24 +196,24 @@ pub extern "C" fn rf_frames_check(
     ensures { CheckCode base tree.now owners.now words.now at.old at.new result }
 {
     match frames_pool::check(tree, owners, words, base) {
-        Looked::Clean => RF_DONE,
-        Looked::Unbacked => RF_UNBACKED,
-        Looked::Lie(p) => {
+        Ok(()) => RF_DONE,
+        Err(Unclean::Unbacked) => RF_UNBACKED,
+        Err(Unclean::Lie(p)) => {
             *at = p;
             RF_CORRUPT
         }
-        Looked::Wrong(k) => {
+        Err(Unclean::Wrong(k)) => {
             *at = k;
             RF_WRONG
         }
-        Looked::Beyond(k) => {
+        Err(Unclean::Beyond(k)) => {
             *at = k;
             RF_BEYOND
         }
-        Looked::Dirty(k) => {
+        Err(Unclean::Dirty(k)) => {
             *at = k;
             RF_DIRTY
         }
-        Looked::Unfit(why) => reason_codes::unfit(why),
+        Err(Unclean::Unfit(why)) => reason_codes::unfit(why),
     }
 }

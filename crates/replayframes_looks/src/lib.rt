@@ -6,7 +6,8 @@
 
 ghost use Rattle.replayframes_looks.specs.Looks.{WordsCode, CapCode, CountCode, AnyCode, TestCode, NextCode, CheckCode};
 
-use bitmap_looks::{Checked, Counted, NextFree, SomeFree, Tested, Words};
+use bitmap_looks::{NoNext, NotTested, Unsound};
+use bitmap_tree::NotFull;
 use codes::{RF_CORRUPT, RF_DONE, RF_NO_ROOM, RF_NO_SIZE, RF_NOT_FULL, RF_OUTSIDE};
 
 // How many words a tree of so many frames has.
@@ -15,11 +16,11 @@ pub extern "C" fn rf_bitmap_words_for(frames: usize, words: &mut usize) -> u32
     ensures { WordsCode frames words.old words.new result }
 {
     match bitmap_looks::words_for(frames) {
-        Words::Count(w) => {
+        Some(w) => {
             *words = w;
             RF_DONE
         }
-        Words::NoSize => RF_NO_SIZE,
+        None => RF_NO_SIZE,
     }
 }
 
@@ -29,11 +30,11 @@ pub extern "C" fn rf_bitmap_cap(tree: &[u16], frames: &mut usize) -> u32
     ensures { CapCode tree.now frames.old frames.new result }
 {
     match bitmap_looks::cap(tree) {
-        Counted::Frames(all) => {
+        Ok(all) => {
             *frames = all;
             RF_DONE
         }
-        Counted::NotFull => RF_NOT_FULL,
+        Err(NotFull) => RF_NOT_FULL,
     }
 }
 
@@ -43,11 +44,11 @@ pub extern "C" fn rf_bitmap_count_free(tree: &[u16], frames: &mut usize) -> u32
     ensures { CountCode tree.now frames.old frames.new result }
 {
     match bitmap_looks::count_free(tree) {
-        Counted::Frames(n) => {
+        Ok(n) => {
             *frames = n;
             RF_DONE
         }
-        Counted::NotFull => RF_NOT_FULL,
+        Err(NotFull) => RF_NOT_FULL,
     }
 }
 
@@ -57,15 +58,11 @@ pub extern "C" fn rf_bitmap_any(tree: &[u16], some: &mut u8) -> u32
     ensures { AnyCode tree.now some.old some.new result }
 {
     match bitmap_looks::any(tree) {
-        SomeFree::Yes => {
-            *some = 1;
+        Ok(free) => {
+            *some = free as u8;
             RF_DONE
         }
-        SomeFree::No => {
-            *some = 0;
-            RF_DONE
-        }
-        SomeFree::NotFull => RF_NOT_FULL,
+        Err(NotFull) => RF_NOT_FULL,
     }
 }
 
@@ -75,16 +72,12 @@ pub extern "C" fn rf_bitmap_test(tree: &[u16], k: usize, free: &mut u8) -> u32
     ensures { TestCode tree.now k free.old free.new result }
 {
     match bitmap_looks::test(tree, k) {
-        Tested::Free => {
-            *free = 1;
+        Ok(is) => {
+            *free = is as u8;
             RF_DONE
         }
-        Tested::Taken => {
-            *free = 0;
-            RF_DONE
-        }
-        Tested::Outside => RF_OUTSIDE,
-        Tested::NotFull => RF_NOT_FULL,
+        Err(NotTested::Outside) => RF_OUTSIDE,
+        Err(NotTested::NotFull) => RF_NOT_FULL,
     }
 }
 
@@ -94,14 +87,14 @@ pub extern "C" fn rf_bitmap_next(tree: &[u16], k: usize, frame: &mut usize) -> u
     ensures { NextCode tree.now k frame.old frame.new result }
 {
     match bitmap_looks::next(tree, k) {
-        NextFree::Frame(f) => {
+        Ok(f) => {
             *frame = f;
             RF_DONE
         }
-        NextFree::Nothing => RF_NO_ROOM,
-        NextFree::Corrupt => RF_CORRUPT,
-        NextFree::Outside => RF_OUTSIDE,
-        NextFree::NotFull => RF_NOT_FULL,
+        Err(NoNext::Nothing) => RF_NO_ROOM,
+        Err(NoNext::Corrupt) => RF_CORRUPT,
+        Err(NoNext::Outside) => RF_OUTSIDE,
+        Err(NoNext::NotFull) => RF_NOT_FULL,
     }
 }
 
@@ -111,11 +104,11 @@ pub extern "C" fn rf_bitmap_check(tree: &[u16], word: &mut usize) -> u32
     ensures { CheckCode tree.now word.old word.new result }
 {
     match bitmap_looks::check(tree) {
-        Checked::Sound => RF_DONE,
-        Checked::Lie(p) => {
+        Ok(()) => RF_DONE,
+        Err(Unsound::Lie(p)) => {
             *word = p;
             RF_CORRUPT
         }
-        Checked::NotFull => RF_NOT_FULL,
+        Err(Unsound::NotFull) => RF_NOT_FULL,
     }
 }

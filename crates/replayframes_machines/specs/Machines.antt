@@ -45,4 +45,5 @@ RegionCode q table zones number guest host pages kind zones' r = Named kind 2 no
 
 -- r is the code of the answer to a translation, and the pointer holds its address; or no set has the number, and it holds what it held
 abbrev pub TranslateCode : List ℕ → List ℕ → ℕ → ℕ → ℕ → ℕ → ℕ → ℕ → Type 0
-TranslateCode table zones number which addr old new r = Named which 1 no_set r (new ≡ old) (Valued (ServedZones table zones number (Request.Translate (which_of which) addr) zones) answer_code address_in old new r)
+TranslateCode table zones number which addr old new r =
+    Named which 1 no_set r (new ≡ old) (Valued (ServedZones table zones number (Request.Translate (which_of which) addr) zones) answer_code address_in old new r)

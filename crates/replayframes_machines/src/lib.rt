@@ -21,12 +21,11 @@ use codes::{RF_NO_KIND, RF_NO_SET};
 fn region_with(guest: u64, host: u64, pages: u64, kind: u64) -> Region
     ensures { result ≡ region_with guest host pages kind }
 {
-    let named = region_words::kind_of(kind);
     Region {
-        guest: guest,
-        host: host,
-        pages: pages,
-        kind: named,
+        guest,
+        host,
+        pages,
+        kind: region_words::kind_of(kind),
     }
 }
 

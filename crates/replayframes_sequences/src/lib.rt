@@ -13,29 +13,28 @@ ghost use Rattle.hv_state.specs.Serving.{mem};
 ghost use Rattle.replayframes_sequences.specs.Sequences.{ran_code, ran_offset, RunCode};
 
 use codes::{RF_BROKEN, RF_DONE, RF_FEW_WORDS, RF_SPARE};
-use hv_run::Ran;
+use hv_run::NotRun;
 
 // The code of what came of a sequence of calls.
-fn code_of_run(answer: Ran) -> u32
+fn code_of_run(answer: Result<usize, NotRun>) -> u32
     ensures { result ≡ ran_code answer }
 {
     match answer {
-        Ran::Done(_) => RF_DONE,
-        Ran::Broken(_) => RF_BROKEN,
-        Ran::FewWords => RF_FEW_WORDS,
-        Ran::Spare => RF_SPARE,
+        Ok(_) => RF_DONE,
+        Err(NotRun::Broken(_)) => RF_BROKEN,
+        Err(NotRun::FewWords) => RF_FEW_WORDS,
+        Err(NotRun::Spare) => RF_SPARE,
     }
 }
 
 // How many calls were served, or where the bytes are no sequence, or `old` where they were not looked at.
-fn offset_of_run(answer: Ran, old: u64) -> u64
+fn offset_of_run(answer: Result<usize, NotRun>, old: u64) -> u64
     ensures { result ≡ ran_offset answer old }
 {
     match answer {
-        Ran::Done(n) => n as u64,
-        Ran::Broken(q) => q as u64,
-        Ran::FewWords => old,
-        Ran::Spare => old,
+        Ok(n) => n as u64,
+        Err(NotRun::Broken(q)) => q as u64,
+        Err(NotRun::FewWords | NotRun::Spare) => old,
     }
 }
 
@@ -56,7 +55,10 @@ pub extern "C" fn rf_run(
     answers: &mut [u64],
     offset: &mut u64,
 ) -> u32
-    ensures { RunCode bytes.now replies.old answers.old spare_zones.old spare_tree.old spare_owners.old (mem table.now zones.old tree.old owners.old words.old) (mem table.now zones.new tree.new owners.new words.new) replies.new answers.new offset.old offset.new result }
+    ensures { RunCode bytes.now replies.old answers.old spare_zones.old spare_tree.old spare_owners.old
+        (mem table.now zones.old tree.old owners.old words.old)
+        (mem table.now zones.new tree.new owners.new words.new) replies.new answers.new
+        offset.old offset.new result }
 {
     let answer = hv_run::run(
         table,

@@ -5,14 +5,14 @@
 
 ghost use Rattle.std.specs.Prelude.{◌≡◌};
 ghost use Rattle.hv_state.specs.Serving.{mem};
-ghost use Rattle.replayframes_start.specs.Start.{zones_code, frames_code, not_started_code, StartCode, fault_code, checked_code, CheckCode};
+ghost use Rattle.replayframes_start.specs.Start.{zones_code, frames_code, not_started_code, StartCode, fault_code, not_sound_code, CheckCode};
 
 use codes::{
     RF_CORRUPT, RF_DONE, RF_FEW_SLOTS, RF_FRAMES_TOO_MANY, RF_NO_TABLE, RF_POOL_TOO_LARGE,
     RF_UNBACKED, RF_ZONES,
 };
-use hv_check::{Checked, Fault};
-use hv_start::{BadFrames, BadZones, NotStarted, Started};
+use hv_check::{Fault, NotSound};
+use hv_start::{BadFrames, BadZones, NotStarted};
 
 // Why the machines' words are not those of a configuration.
 fn zones_code(why: BadZones) -> u32
@@ -62,8 +62,8 @@ pub extern "C" fn rf_start(
     ensures { StartCode bytes.now (mem table.old zones.old tree.old owners.old words.old) (mem table.new zones.new tree.new owners.new words.new) result }
 {
     match hv_start::start(bytes, table, zones, tree, owners, words) {
-        Started::Done => RF_DONE,
-        Started::No(why) => not_started(why),
+        Ok(()) => RF_DONE,
+        Err(why) => not_started(why),
     }
 }
 
@@ -79,19 +79,18 @@ fn fault_code(why: Fault) -> u32
     }
 }
 
-// What a check says.
-fn check_code(said: Checked) -> u32
-    ensures { result ≡ checked_code said }
+// Why the memories are not sound.
+fn not_sound(why: NotSound) -> u32
+    ensures { result ≡ not_sound_code why }
 {
-    match said {
-        Checked::Sound => RF_DONE,
-        Checked::Table => RF_CORRUPT,
-        Checked::Zones => RF_ZONES,
-        Checked::Machine(_, why) => fault_code(why),
-        Checked::Frames => RF_CORRUPT,
-        Checked::FewFrames => RF_POOL_TOO_LARGE,
-        Checked::FewPages => RF_FRAMES_TOO_MANY,
-        Checked::Frame(_) => RF_CORRUPT,
+    match why {
+        NotSound::Table => RF_CORRUPT,
+        NotSound::Zones => RF_ZONES,
+        NotSound::Machine(_, fault) => fault_code(fault),
+        NotSound::Frames => RF_CORRUPT,
+        NotSound::FewFrames => RF_POOL_TOO_LARGE,
+        NotSound::FewPages => RF_FRAMES_TOO_MANY,
+        NotSound::Frame(_) => RF_CORRUPT,
     }
 }
 
@@ -106,5 +105,8 @@ pub extern "C" fn rf_check(
 ) -> u32
     ensures { CheckCode (mem table.now zones.now tree.now owners.now words.now) result }
 {
-    check_code(hv_check::check(table, zones, tree, owners, words))
+    match hv_check::check(table, zones, tree, owners, words) {
+        Ok(()) => RF_DONE,
+        Err(why) => not_sound(why),
+    }
 }

@@ -1,20 +1,20 @@
 -- What the exported looks say: that the look beneath could have answered something of which the result is the code, and what stands behind
 -- the pointers its values. Assumes nothing.
-use Rattle.std.specs.Prelude.{List, ℕ, ◌≤◌, ◌<◌}
+use Rattle.std.specs.Prelude.{Bool, true, false, List, ℕ, ◌≤◌, ◌<◌, Result, Ok, Err}
 use Rattle.address.specs.declared.Region.{Region}
 use Rattle.region_words.specs.Words.{number_of}
 use Rattle.codes.specs.Codes.{Valued, done, no_size, corrupt, no_table, no_machine, no_set, no_region, many_machines, many_slots}
-use Rattle.config_table.specs.declared.Counted.{Counted}
-use Rattle.config_table.specs.declared.Found.{Found}
+use Rattle.config_table.specs.declared.NoTable.{NoTable}
+use Rattle.config_table.specs.declared.Unlisted.{Unlisted}
+use Rattle.config_table.specs.declared.NoRegion.{NoRegion}
 use Rattle.config_table.specs.Holding.{MachinesSays, NumberSays, CountSays, RegionSays, PoolSays}
 use Rattle.machine.specs.declared.Which.{Which}
 use Rattle.machine_codes.specs.Codes.{which_of}
-use Rattle.hv_looks.specs.declared.Presence.{Presence}
-use Rattle.hv_looks.specs.declared.SetSize.{SetSize}
-use Rattle.hv_looks.specs.declared.SetRegion.{SetRegion}
+use Rattle.hv_looks.specs.declared.NotSeen.{NotSeen}
+use Rattle.hv_looks.specs.declared.NoRegion as unseen
 use Rattle.hv_looks.specs.Looks.{PresenceSays, SetSizeSays, SetRegionSays}
 use Rattle.lending.specs.declared.Sizes.{Sizes}
-use Rattle.lending.specs.declared.Amount.{Amount}
+use Rattle.lending.specs.declared.TooMany.{TooMany}
 use Rattle.lending.specs.Lending.{AmountSays}
 
 -- ---- what stands behind several pointers
@@ -49,98 +49,70 @@ sizes table zones tree owners words = record { table = table; zones = zones; tre
 
 -- ---- the code and the value of each answer
 
--- of a number
-abbrev pub counted_code : Counted → ℕ
-counted_code (Counted.Number n) = done
-counted_code Counted.NoMachine = no_machine
-counted_code Counted.NoTable = no_table
+-- 0 where there is an answer, and else the code of why not
+abbrev pub result_code : {A E : Type 0} → (E → ℕ) → Result A E → ℕ
+result_code code (Ok a) = done
+result_code code (Err e) = code e
 
--- the number, or what stood there
-abbrev pub counted_value : Counted → ℕ → ℕ
-counted_value (Counted.Number n) old = n
-counted_value Counted.NoMachine old = old
-counted_value Counted.NoTable old = old
+-- what is written of an answer, or what stood there
+abbrev pub result_value : {A B E : Type 0} → (A → B) → Result A E → B → B
+result_value value (Ok a) old = value a
+result_value value (Err e) old = old
 
--- of a region
-abbrev pub found_code : Found → ℕ
-found_code (Found.Is r) = done
-found_code Found.NoMachine = no_machine
-found_code Found.NoRegion = no_region
-found_code Found.NoTable = no_table
+-- a number as it is
+abbrev pub itself : ℕ → ℕ
+itself n = n
 
--- the region's fields, or what stood there
-abbrev pub found_fields : Found → Fields → Fields
-found_fields (Found.Is r) old = fields_of r
-found_fields Found.NoMachine old = old
-found_fields Found.NoRegion old = old
-found_fields Found.NoTable old = old
+-- why nothing is said of a table
+abbrev pub no_table_code : NoTable → ℕ
+no_table_code e = no_table
 
--- its host pages, or what stood there
-abbrev pub found_span : Found → Span → Span
-found_span (Found.Is r) old = span r.host r.pages
-found_span Found.NoMachine old = old
-found_span Found.NoRegion old = old
-found_span Found.NoTable old = old
+-- why nothing is said of a machine of the table
+abbrev pub unlisted_code : Unlisted → ℕ
+unlisted_code Unlisted.NoMachine = no_machine
+unlisted_code Unlisted.NoTable = no_table
 
--- of whether a machine is there
-abbrev pub presence_code : Presence → ℕ
-presence_code Presence.Here = done
-presence_code Presence.Away = done
-presence_code Presence.NoMachine = no_machine
-presence_code Presence.NoTable = no_table
-presence_code Presence.Corrupt = corrupt
+-- why a region of the table is not found
+abbrev pub no_region_code : NoRegion → ℕ
+no_region_code NoRegion.NoRegion = no_region
+no_region_code NoRegion.NoMachine = no_machine
+no_region_code NoRegion.NoTable = no_table
 
--- 1 where it is and 0 where not, or what stood there
-abbrev pub presence_value : Presence → ℕ → ℕ
-presence_value Presence.Here old = 1
-presence_value Presence.Away old = 0
-presence_value Presence.NoMachine old = old
-presence_value Presence.NoTable old = old
-presence_value Presence.Corrupt old = old
+-- the allocator's region: its host pages
+abbrev pub span_of : Region → Span
+span_of r = span r.host r.pages
 
--- of the regions of a set
-abbrev pub size_code : SetSize → ℕ
-size_code (SetSize.Number n) = done
-size_code SetSize.NoMachine = no_machine
-size_code SetSize.NoTable = no_table
-size_code SetSize.Corrupt = corrupt
+-- 1 where a machine is there and 0 where not
+abbrev pub there_value : Bool → ℕ
+there_value true = 1
+there_value false = 0
 
--- how many they are, or what stood there
-abbrev pub size_value : SetSize → ℕ → ℕ
-size_value (SetSize.Number n) old = n
-size_value SetSize.NoMachine old = old
-size_value SetSize.NoTable old = old
-size_value SetSize.Corrupt old = old
+-- why a machine's words say nothing of it
+abbrev pub not_seen_code : NotSeen → ℕ
+not_seen_code NotSeen.NoMachine = no_machine
+not_seen_code NotSeen.NoTable = no_table
+not_seen_code NotSeen.Corrupt = corrupt
 
--- of one of them
-abbrev pub region_code : SetRegion → ℕ
-region_code (SetRegion.Is r) = done
-region_code SetRegion.NoRegion = no_region
-region_code SetRegion.NoMachine = no_machine
-region_code SetRegion.NoTable = no_table
-region_code SetRegion.Corrupt = corrupt
-
--- its fields, or what stood there
-abbrev pub region_fields : SetRegion → Fields → Fields
-region_fields (SetRegion.Is r) old = fields_of r
-region_fields SetRegion.NoRegion old = old
-region_fields SetRegion.NoMachine old = old
-region_fields SetRegion.NoTable old = old
-region_fields SetRegion.Corrupt old = old
+-- why they have no such region
+abbrev pub unseen_code : unseen.NoRegion → ℕ
+unseen_code unseen.NoRegion.NoRegion = no_region
+unseen_code unseen.NoRegion.NoMachine = no_machine
+unseen_code unseen.NoRegion.NoTable = no_table
+unseen_code unseen.NoRegion.Corrupt = corrupt
 
 -- of how much to lend
-abbrev pub amount_code : Amount → ℕ
-amount_code (Amount.Is s) = done
-amount_code Amount.ManyMachines = many_machines
-amount_code Amount.ManySlots = many_slots
-amount_code Amount.ManyFrames = no_size
+abbrev pub amount_code : Result Sizes TooMany → ℕ
+amount_code (Ok s) = done
+amount_code (Err TooMany.Machines) = many_machines
+amount_code (Err TooMany.Slots) = many_slots
+amount_code (Err TooMany.Frames) = no_size
 
 -- the sizes to lend, or what stood there
-abbrev pub amount_sizes : Amount → Sizes → Sizes
-amount_sizes (Amount.Is s) old = s
-amount_sizes Amount.ManyMachines old = old
-amount_sizes Amount.ManySlots old = old
-amount_sizes Amount.ManyFrames old = old
+abbrev pub amount_sizes : Result Sizes TooMany → Sizes → Sizes
+amount_sizes (Ok s) old = s
+amount_sizes (Err TooMany.Machines) old = old
+amount_sizes (Err TooMany.Slots) old = old
+amount_sizes (Err TooMany.Frames) old = old
 
 -- ---- a set by its number
 
@@ -168,35 +140,35 @@ of_set_value value (OfSet.Answered a) old = value a old
 
 -- how many machines the configuration has
 abbrev pub MachinesCode : List ℕ → ℕ → ℕ → ℕ → Type 0
-MachinesCode t old new r = Valued (MachinesSays t) counted_code counted_value old new r
+MachinesCode t old new r = Valued (MachinesSays t) (result_code no_table_code) (result_value itself) old new r
 
 -- the number of the machine at a place
 abbrev pub NumberCode : List ℕ → ℕ → ℕ → ℕ → ℕ → Type 0
-NumberCode t place old new r = Valued (NumberSays t place) counted_code counted_value old new r
+NumberCode t place old new r = Valued (NumberSays t place) (result_code unlisted_code) (result_value itself) old new r
 
 -- how many regions it is given
 abbrev pub CountCode : List ℕ → ℕ → ℕ → ℕ → ℕ → Type 0
-CountCode t place old new r = Valued (CountSays t place) counted_code counted_value old new r
+CountCode t place old new r = Valued (CountSays t place) (result_code unlisted_code) (result_value itself) old new r
 
 -- its region i
 abbrev pub RegionCode : List ℕ → ℕ → ℕ → Fields → Fields → ℕ → Type 0
-RegionCode t place i old new r = Valued (RegionSays t place i) found_code found_fields old new r
+RegionCode t place i old new r = Valued (RegionSays t place i) (result_code no_region_code) (result_value fields_of) old new r
 
 -- the allocator's region
 abbrev pub PoolCode : List ℕ → Span → Span → ℕ → Type 0
-PoolCode t old new r = Valued (PoolSays t) found_code found_span old new r
+PoolCode t old new r = Valued (PoolSays t) (result_code no_table_code) (result_value span_of) old new r
 
 -- whether the machine that has a number is there
 abbrev pub ThereCode : List ℕ → List ℕ → ℕ → ℕ → ℕ → ℕ → Type 0
-ThereCode t z number old new r = Valued (PresenceSays t z number) presence_code presence_value old new r
+ThereCode t z number old new r = Valued (PresenceSays t z number) (result_code not_seen_code) (result_value there_value) old new r
 
 -- how many regions a set of it has
 abbrev pub SetSizeCode : List ℕ → List ℕ → ℕ → ℕ → ℕ → ℕ → ℕ → Type 0
-SetSizeCode t z number which old new r = Valued (OfSetSays which (λ w. SetSizeSays t z number w)) (of_set_code size_code) (of_set_value size_value) old new r
+SetSizeCode t z number which old new r = Valued (OfSetSays which (λ w. SetSizeSays t z number w)) (of_set_code (result_code not_seen_code)) (of_set_value (result_value itself)) old new r
 
 -- region i of a set of it
 abbrev pub SetRegionCode : List ℕ → List ℕ → ℕ → ℕ → ℕ → Fields → Fields → ℕ → Type 0
-SetRegionCode t z number which i old new r = Valued (OfSetSays which (λ w. SetRegionSays t z number w i)) (of_set_code region_code) (of_set_value region_fields) old new r
+SetRegionCode t z number which i old new r = Valued (OfSetSays which (λ w. SetRegionSays t z number w i)) (of_set_code (result_code unseen_code)) (of_set_value (result_value fields_of)) old new r
 
 -- how much to lend
 abbrev pub LendCode : ℕ → ℕ → ℕ → Sizes → Sizes → ℕ → Type 0

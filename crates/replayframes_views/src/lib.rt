@@ -9,15 +9,16 @@
 
 ghost use Rattle.std.specs.Prelude.{◌≡◌};
 ghost use Rattle.replayframes_views.specs.Views.{fields, fields_of, span, MachinesCode, NumberCode, CountCode, RegionCode, PoolCode, ThereCode, SetSizeCode, SetRegionCode, sizes, LendCode};
+ghost use Rattle.replayframes_views.specs.Views.{unlisted_code, no_region_code, not_seen_code, unseen_code};
 
 use address::Region;
 use codes::{
     RF_CORRUPT, RF_DONE, RF_MANY_MACHINES, RF_MANY_SLOTS, RF_NO_MACHINE, RF_NO_REGION, RF_NO_SET,
     RF_NO_SIZE, RF_NO_TABLE,
 };
-use config_table::{Counted, Found};
-use hv_looks::{Presence, SetRegion, SetSize};
-use lending::Amount;
+use config_table::{NoRegion, Unlisted};
+use hv_looks::NotSeen;
+use lending::TooMany;
 
 // Writes the fields of a region, its kind by its number.
 fn write_region(r: Region, guest: &mut u64, host: &mut u64, pages: &mut u64, kind: &mut u64)
@@ -30,18 +31,61 @@ fn write_region(r: Region, guest: &mut u64, host: &mut u64, pages: &mut u64, kin
     *kind = region_words::number_of(named);
 }
 
+// The code of why nothing is said of a machine of the table.
+fn unlisted_code(why: Unlisted) -> u32
+    ensures { result ≡ unlisted_code why }
+{
+    match why {
+        Unlisted::NoMachine => RF_NO_MACHINE,
+        Unlisted::NoTable => RF_NO_TABLE,
+    }
+}
+
+// The code of why a region of the table is not found.
+fn no_region_code(why: NoRegion) -> u32
+    ensures { result ≡ no_region_code why }
+{
+    match why {
+        NoRegion::NoRegion => RF_NO_REGION,
+        NoRegion::NoMachine => RF_NO_MACHINE,
+        NoRegion::NoTable => RF_NO_TABLE,
+    }
+}
+
+// The code of why a machine's words say nothing of it.
+fn not_seen_code(why: NotSeen) -> u32
+    ensures { result ≡ not_seen_code why }
+{
+    match why {
+        NotSeen::NoMachine => RF_NO_MACHINE,
+        NotSeen::NoTable => RF_NO_TABLE,
+        NotSeen::Corrupt => RF_CORRUPT,
+    }
+}
+
+// The code of why a machine's words have no such region.
+fn unseen_code(why: hv_looks::NoRegion) -> u32
+    ensures { result ≡ unseen_code why }
+{
+    match why {
+        hv_looks::NoRegion::NoRegion => RF_NO_REGION,
+        hv_looks::NoRegion::NoMachine => RF_NO_MACHINE,
+        hv_looks::NoRegion::NoTable => RF_NO_TABLE,
+        hv_looks::NoRegion::Corrupt => RF_CORRUPT,
+    }
+}
+
 // How many machines the configuration has.
 #[unsafe(no_mangle)]
 pub extern "C" fn rf_config_machines(table: &[u64], machines: &mut u64) -> u32
     ensures { MachinesCode table.now machines.old machines.new result }
 {
     match config_table::machines(table) {
-        Counted::Number(n) => {
+        Ok(n) => {
             *machines = n as u64;
             RF_DONE
         }
-        Counted::NoMachine => RF_NO_MACHINE,
-        Counted::NoTable => RF_NO_TABLE,
+        Err(_) => RF_NO_TABLE,
     }
 }
 
@@ -51,12 +95,11 @@ pub extern "C" fn rf_config_number(table: &[u64], place: u64, number: &mut u64) 
     ensures { NumberCode table.now place number.old number.new result }
 {
     match config_table::number(table, place as usize) {
-        Counted::Number(n) => {
+        Ok(n) => {
             *number = n as u64;
             RF_DONE
         }
-        Counted::NoMachine => RF_NO_MACHINE,
-        Counted::NoTable => RF_NO_TABLE,
+        Err(why) => unlisted_code(why),
     }
 }
 
@@ -66,12 +109,11 @@ pub extern "C" fn rf_config_regions(table: &[u64], place: u64, count: &mut u64) 
     ensures { CountCode table.now place count.old count.new result }
 {
     match config_table::count(table, place as usize) {
-        Counted::Number(n) => {
+        Ok(n) => {
             *count = n as u64;
             RF_DONE
         }
-        Counted::NoMachine => RF_NO_MACHINE,
-        Counted::NoTable => RF_NO_TABLE,
+        Err(why) => unlisted_code(why),
     }
 }
 
@@ -89,13 +131,11 @@ pub extern "C" fn rf_config_region(
     ensures { RegionCode table.now place i (fields guest.old host.old pages.old kind.old) (fields guest.new host.new pages.new kind.new) result }
 {
     match config_table::region(table, place as usize, i as usize) {
-        Found::Is(region) => {
+        Ok(region) => {
             write_region(region, guest, host, pages, kind);
             RF_DONE
         }
-        Found::NoMachine => RF_NO_MACHINE,
-        Found::NoRegion => RF_NO_REGION,
-        Found::NoTable => RF_NO_TABLE,
+        Err(why) => no_region_code(why),
     }
 }
 
@@ -105,14 +145,12 @@ pub extern "C" fn rf_config_pool(table: &[u64], host: &mut u64, pages: &mut u64)
     ensures { PoolCode table.now (span host.old pages.old) (span host.new pages.new) result }
 {
     match config_table::pool(table) {
-        Found::Is(region) => {
+        Ok(region) => {
             *host = region.host;
             *pages = region.pages;
             RF_DONE
         }
-        Found::NoMachine => RF_NO_MACHINE,
-        Found::NoRegion => RF_NO_REGION,
-        Found::NoTable => RF_NO_TABLE,
+        Err(_) => RF_NO_TABLE,
     }
 }
 
@@ -122,17 +160,11 @@ pub extern "C" fn rf_zone_there(table: &[u64], zones: &[u64], number: u64, there
     ensures { ThereCode table.now zones.now number there.old there.new result }
 {
     match hv_looks::is_there(table, zones, number) {
-        Presence::Here => {
-            *there = 1;
+        Ok(answer) => {
+            *there = answer as u8;
             RF_DONE
         }
-        Presence::Away => {
-            *there = 0;
-            RF_DONE
-        }
-        Presence::NoMachine => RF_NO_MACHINE,
-        Presence::NoTable => RF_NO_TABLE,
-        Presence::Corrupt => RF_CORRUPT,
+        Err(why) => not_seen_code(why),
     }
 }
 
@@ -153,13 +185,11 @@ pub extern "C" fn rf_zone_regions(
     }
     let set = machine_codes::which_of(which);
     match hv_looks::regions(table, zones, number, set) {
-        SetSize::Number(all) => {
+        Ok(all) => {
             *count = all as u64;
             RF_DONE
         }
-        SetSize::NoMachine => RF_NO_MACHINE,
-        SetSize::NoTable => RF_NO_TABLE,
-        SetSize::Corrupt => RF_CORRUPT,
+        Err(why) => not_seen_code(why),
     }
 }
 
@@ -183,14 +213,11 @@ pub extern "C" fn rf_zone_region(
     }
     let set = machine_codes::which_of(which);
     match hv_looks::region(table, zones, number, set, i as usize) {
-        SetRegion::Is(found) => {
+        Ok(found) => {
             write_region(found, guest, host, pages, kind);
             RF_DONE
         }
-        SetRegion::NoRegion => RF_NO_REGION,
-        SetRegion::NoMachine => RF_NO_MACHINE,
-        SetRegion::NoTable => RF_NO_TABLE,
-        SetRegion::Corrupt => RF_CORRUPT,
+        Err(why) => unseen_code(why),
     }
 }
 
@@ -211,7 +238,7 @@ pub extern "C" fn rf_to_lend(
     ensures { LendCode machines slots frames (sizes table.old zones.old tree.old owners.old words.old) (sizes table.new zones.new tree.new owners.new words.new) result }
 {
     match lending::to_lend(machines as usize, slots as usize, frames as usize) {
-        Amount::Is(all) => {
+        Ok(all) => {
             *table = all.table as u64;
             *zones = all.zones as u64;
             *tree = all.tree as u64;
@@ -219,8 +246,8 @@ pub extern "C" fn rf_to_lend(
             *words = all.words as u64;
             RF_DONE
         }
-        Amount::ManyMachines => RF_MANY_MACHINES,
-        Amount::ManySlots => RF_MANY_SLOTS,
-        Amount::ManyFrames => RF_NO_SIZE,
+        Err(TooMany::Machines) => RF_MANY_MACHINES,
+        Err(TooMany::Slots) => RF_MANY_SLOTS,
+        Err(TooMany::Frames) => RF_NO_SIZE,
     }
 }

@@ -1,6 +1,6 @@
 -- What bytes mean as a request. A request is 33 bytes: a byte that says which operation, and four numbers of 8 bytes, little-endian. What an
 -- operation does not use is 0. `numbers_of` says it all. Assumes nothing.
-use Rattle.std.specs.Prelude.{◌≡◌, List, ℕ, ◌+◌, ◌≤◌, length, get_or, eqb}
+use Rattle.std.specs.Prelude.{◌≡◌, List, ℕ, ◌+◌, ◌*◌, ◌≤◌, ◌<◌, length, get_or, eqb, Option, Some, None}
 use Rattle.base.specs.Choices.{pick}
 use Rattle.address.specs.declared.Region.{Region}
 use Rattle.region_words.specs.Words.{kind_of, number_of}
@@ -10,7 +10,6 @@ use Rattle.machine.specs.declared.Request.{Request}
 use Rattle.machine.specs.declared.Request.TheVariants.{AddZone, RemoveZone, RemoveZoneWhole, Insert, Remove, Translate, Alloc, AllocContiguous, Dealloc, DeallocContiguous}
 use Rattle.machine_codes.specs.Codes.{which_of}
 use Rattle.request_bytes.specs.declared.Numbers.{Numbers}
-use Rattle.request_bytes.specs.declared.Read.{Read}
 
 -- an operation and its four numbers
 abbrev pub five : ℕ → ℕ → ℕ → ℕ → ℕ → Numbers
@@ -73,6 +72,15 @@ abbrev pub request_at : List ℕ → ℕ → Request
 request_at s p = request_of (numbers_at s p)
 
 -- what reading the bytes from p on says: the request that they mean, or that they mean none
-abbrev pub ReadSays : List ℕ → ℕ → Read → Type 0
-ReadSays s p (Read.Is q) = (q ≡ request_at s p) × Means s p q
-ReadSays s p Read.Malformed = (q : Request) → Means s p q → ⊥
+abbrev pub ReadSays : List ℕ → ℕ → Option Request → Type 0
+ReadSays s p (Some q) = (q ≡ request_at s p) × Means s p q
+ReadSays s p None = (q : Request) → Means s p q → ⊥
+
+-- request i of those in the bytes from p on, 33 for each
+abbrev pub nth_request : List ℕ → ℕ → ℕ → Request
+nth_request s p i = request_at s (p + 33 * i)
+
+-- the bytes from p on mean n requests, one behind the other
+pub record MeansAll (s : List ℕ) (p n : ℕ) : Type 0 where
+  pub within : p + 33 * n ≤ length s
+  pub right : (i : ℕ) → i < n → Means s (p + 33 * i) (nth_request s p i)

@@ -3,7 +3,6 @@
 #![tactic(auto)]
 
 ghost use Rattle.std.specs.Prelude.{◌≡◌, ◌+◌, ◌≤◌, length};
-ghost use Rattle.base.specs.Says.{Says};
 ghost use Rattle.request_bytes.specs.Requests.{five, of_region, numbers_of, numbers_at, region_in, request_of, ReadSays};
 
 use address::Region;
@@ -13,7 +12,7 @@ use machine_codes::which_of;
 use region_words::{kind_of, number_of};
 
 // An operation and its four numbers.
-#[derive(Clone, Copy)]
+#[derive(Clone, Copy, Debug, PartialEq, Eq)]
 pub struct Numbers {
     pub op: u64,
     pub a: u64,
@@ -22,33 +21,18 @@ pub struct Numbers {
     pub d: u64,
 }
 
-// What bytes are read as.
-#[derive(Drop)]
-pub enum Read {
-    Is(Request),
-    // They mean no request.
-    Malformed,
-}
-
 // An operation and its four numbers, as one value.
 fn five(op: u64, a: u64, b: u64, c: u64, d: u64) -> Numbers
     ensures { result ≡ five op a b c d }
 {
-    Numbers {
-        op: op,
-        a: a,
-        b: b,
-        c: c,
-        d: d,
-    }
+    Numbers { op, a, b, c, d }
 }
 
 // The numbers of an operation on a region.
 fn of_region(op: u64, r: Region) -> Numbers
     ensures { result ≡ of_region op r }
 {
-    let kind = r.kind;
-    five(op, r.guest, r.host, r.pages, number_of(kind))
+    five(op, r.guest, r.host, r.pages, number_of(r.kind))
 }
 
 // The numbers of a request.
@@ -84,29 +68,8 @@ fn numbers_of(q: Request) -> Numbers
     }
 }
 
-// Whether two operations and their numbers are the same.
-fn same(n: Numbers, m: Numbers) -> bool
-    ensures { Says result (n ≡ m) }
-{
-    if n.op != m.op {
-        return false;
-    }
-    if n.a != m.a {
-        return false;
-    }
-    if n.b != m.b {
-        return false;
-    }
-    if n.c != m.c {
-        return false;
-    }
-    if n.d != m.d {
-        return false;
-    }
-    true
-}
-
 // The numbers in the 33 bytes from `at` on.
+#[tactic(auto, unfolding(crate::specs::Requests::numbers_at))]
 fn numbers_at(bytes: &[u8], at: usize) -> Numbers
     requires { at + 33 ≤ length bytes.now }
     ensures { result ≡ numbers_at bytes.now at }
@@ -128,87 +91,60 @@ fn region_in(n: Numbers) -> Region
         guest: n.a,
         host: n.b,
         pages: n.c,
-        kind: kind,
+        kind,
     }
 }
 
 // The request that numbers are read as.
+#[tactic(auto, unfolding(crate::specs::Requests::request_of))]
 fn request_of(n: Numbers) -> Request
     ensures { result ≡ request_of n }
 {
-    let op = n.op;
-    if op == 0 {
-        return Request::AddZone;
-    }
-    if op == 1 {
-        return Request::RemoveZone;
-    }
-    if op == 2 {
-        return Request::RemoveZoneWhole;
-    }
-    if op == 3 {
-        return Request::Insert {
+    match n.op {
+        0 => Request::AddZone,
+        1 => Request::RemoveZone,
+        2 => Request::RemoveZoneWhole,
+        3 => Request::Insert {
             which: Which::Processors,
             region: region_in(n),
-        };
-    }
-    if op == 4 {
-        return Request::Remove {
+        },
+        4 => Request::Remove {
             which: Which::Processors,
             region: region_in(n),
-        };
-    }
-    if op == 5 {
-        return Request::Insert {
+        },
+        5 => Request::Insert {
             which: Which::Devices,
             region: region_in(n),
-        };
-    }
-    if op == 6 {
-        return Request::Remove {
+        },
+        6 => Request::Remove {
             which: Which::Devices,
             region: region_in(n),
-        };
-    }
-    if op == 7 {
-        return Request::Translate {
+        },
+        7 => Request::Translate {
             which: which_of(n.b),
             addr: n.a,
-        };
-    }
-    if op == 8 {
-        return Request::Alloc;
-    }
-    if op == 9 {
-        return Request::AllocContiguous {
+        },
+        8 => Request::Alloc,
+        9 => Request::AllocContiguous {
             size: n.a as usize,
             align_log2: n.b as usize,
-        };
-    }
-    if op == 10 {
-        return Request::Dealloc { addr: n.a as usize };
-    }
-    Request::DeallocContiguous {
-        addr: n.a as usize,
-        count: n.b as usize,
+        },
+        10 => Request::Dealloc { addr: n.a as usize },
+        _ => Request::DeallocContiguous {
+            addr: n.a as usize,
+            count: n.b as usize,
+        },
     }
 }
 
 // The request that the bytes from `at` on mean, if they mean one.
-pub fn read_at(bytes: &[u8], at: usize) -> Read
+pub fn read_at(bytes: &[u8], at: usize) -> Option<Request>
     ensures { ReadSays bytes.now at result }
 {
-    if bytes.len() < 33 {
-        return Read::Malformed;
-    }
-    if bytes.len() - 33 < at {
-        return Read::Malformed;
+    if bytes.len() < 33 || bytes.len() - 33 < at {
+        return None;
     }
     let n = numbers_at(bytes, at);
     let q = request_of(n);
-    let m = numbers_of(q);
-    if same(n, m) {
-        return Read::Is(q);
-    }
-    Read::Malformed
+    if numbers_of(q) == n { Some(q) } else { None }
 }

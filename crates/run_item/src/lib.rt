@@ -26,8 +26,14 @@ pub fn serve_item(
     answers: &mut [u64],
     at: usize,
 ) -> usize
-    requires { SpareFits zones.old tree.old owners.old spare_zones.old spare_tree.old spare_owners.old × (behind bytes.now p ≤ length bytes.now) × (r + 3 ≤ length replies.old) × (at + 2 * (le64 bytes.now (p + 8) / 33) ≤ length answers.old) }
-    ensures { (result ≡ le64 bytes.now (p + 8)) × ItemServed bytes.now p (mem table.now zones.old tree.old owners.old words.old) (mem table.now zones.new tree.new owners.new words.new) replies.old r replies.new answers.old at answers.new }
+    requires spare { SpareFits zones.old tree.old owners.old spare_zones.old spare_tree.old spare_owners.old }
+    requires whole { behind bytes.now p ≤ length bytes.now }
+    requires reply { r + 3 ≤ length replies.old }
+    requires room { at + 2 * (le64 bytes.now (p + 8) / 33) ≤ length answers.old }
+    ensures len { result ≡ le64 bytes.now (p + 8) }
+    ensures served { ItemServed bytes.now p (mem table.now zones.old tree.old owners.old words.old)
+        (mem table.now zones.new tree.new owners.new words.new)
+        replies.old r replies.new answers.old at answers.new }
 {
     let number = config_bytes::u64_at(bytes, p);
     let len = config_bytes::u64_at(bytes, p + 8) as usize;

@@ -21,12 +21,19 @@ pub fn serve_items(
     replies: &mut [u64],
     answers: &mut [u64],
 )
-    requires { SpareFits zones.old tree.old owners.old spare_zones.old spare_tree.old spare_owners.old × (3 * (length bytes.now / 16) ≤ length replies.old) × (2 * (length bytes.now / 33) ≤ length answers.old) × ((items : List Item) × Framed bytes.now 0 items) }
-    ensures { Transcript bytes.now (mem table.now zones.old tree.old owners.old words.old) (mem table.now zones.new tree.new owners.new words.new) replies.old answers.old replies.new answers.new }
+    requires spare { SpareFits zones.old tree.old owners.old spare_zones.old spare_tree.old spare_owners.old }
+    requires replies { 3 * (length bytes.now / 16) ≤ length replies.old }
+    requires answers { 2 * (length bytes.now / 33) ≤ length answers.old }
+    requires framed { (items : List Item) × Framed bytes.now 0 items }
+    ensures { Transcript bytes.now (mem table.now zones.old tree.old owners.old words.old)
+        (mem table.now zones.new tree.new owners.new words.new)
+        replies.old answers.old replies.new answers.new }
 {
     let mut p = 0;
     let mut r = 0;
     let mut at = 0;
+    // No `for`: how far the next item is, each item says.
+    // A `while`, since each call says how long it is.
     while p < bytes.len() {
         let len = run_item::serve_item(
             table,

@@ -1,13 +1,11 @@
 -- Whether there is a set at `at` in the words z, whatever they are, and whether a region may go in. Assumes nothing.
-use Rattle.std.specs.Prelude.{◌≡◌, true, false, List, ℕ, ◌≤◌, ◌<◌, get_or}
+use Rattle.std.specs.Prelude.{◌≡◌, true, false, List, ℕ, ◌≤◌, ◌<◌, get_or, Result, Ok, Err}
 use Rattle.address.specs.declared.Region.{Region}
 use Rattle.address.specs.Regions.{Valid, ValiditySays}
 use Rattle.set_model.specs.Sets.{meets, any}
 use Rattle.set_slots.specs.Slots.{regions_in, Lies, Readable, UsedOk, SetOk}
 use Rattle.set_claims.specs.declared.Bad.{Bad}
-use Rattle.set_claims.specs.declared.Size.{Size}
 use Rattle.set_claims.specs.declared.NotInserted.{NotInserted}
-use Rattle.set_claims.specs.declared.MayInsert.{MayInsert}
 
 -- the count is above the slots, or else a slot that it counts is not right: the set is not in order
 pub record Broken (z : List ℕ) (at slots : ℕ) : Type 0 where
@@ -21,9 +19,9 @@ BadSays z at slots Bad.NoSet = Lies z at slots → ⊥
 BadSays z at slots Bad.Corrupt = Broken z at slots
 
 -- how many regions the set has
-abbrev pub SizeSays : List ℕ → ℕ → ℕ → Size → Type 0
-SizeSays z at slots (Size.Is n) = Readable z at slots × (n ≡ get_or z at 0)
-SizeSays z at slots (Size.No why) = BadSays z at slots why
+abbrev pub SizeSays : List ℕ → ℕ → ℕ → Result ℕ Bad → Type 0
+SizeSays z at slots (Ok n) = Readable z at slots × (n ≡ get_or z at 0)
+SizeSays z at slots (Err why) = BadSays z at slots why
 
 -- there is a set, r is valid, and no region of the set has a guest page of it
 pub record Fitting (z : List ℕ) (at slots : ℕ) (r : Region) : Type 0 where
@@ -34,11 +32,11 @@ pub record Fitting (z : List ℕ) (at slots : ℕ) (r : Region) : Type 0 where
 -- the first reason why r does not go in
 abbrev pub Refused : List ℕ → ℕ → ℕ → Region → NotInserted → Type 0
 Refused z at slots r (NotInserted.Bad why) = BadSays z at slots why
-Refused z at slots r (NotInserted.NotValid fault) = Readable z at slots × ValiditySays r.guest r.host r.pages fault × (Valid r.guest r.host r.pages → ⊥)
+Refused z at slots r (NotInserted.NotValid fault) = Readable z at slots × ValiditySays r.guest r.host r.pages (Err fault) × (Valid r.guest r.host r.pages → ⊥)
 Refused z at slots r NotInserted.Overlap = Readable z at slots × Valid r.guest r.host r.pages × (any (meets r) (regions_in z at slots) ≡ true)
 Refused z at slots r NotInserted.NoRoom = Fitting z at slots r × (get_or z at 0 ≡ slots)
 
 -- whether r may go in, and to how many regions
-abbrev pub MayInsertSays : List ℕ → ℕ → ℕ → Region → MayInsert → Type 0
-MayInsertSays z at slots r (MayInsert.Yes n) = Fitting z at slots r × (n ≡ get_or z at 0) × (n < slots)
-MayInsertSays z at slots r (MayInsert.No why) = Refused z at slots r why
+abbrev pub MayInsertSays : List ℕ → ℕ → ℕ → Region → Result ℕ NotInserted → Type 0
+MayInsertSays z at slots r (Ok n) = Fitting z at slots r × (n ≡ get_or z at 0) × (n < slots)
+MayInsertSays z at slots r (Err why) = Refused z at slots r why

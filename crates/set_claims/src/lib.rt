@@ -2,15 +2,16 @@
 // whether a region may go in. Nothing is changed here, and nothing is demanded of the caller.
 #![tactic(auto)]
 
-ghost use Rattle.std.specs.Prelude.{◌<◌};
+ghost use Rattle.std.specs.Prelude.{◌≡◌, ◌<◌};
 ghost use Rattle.base.specs.Says.{Says};
 ghost use Rattle.set_slots.specs.Slots.{Lies, UsedOk};
 ghost use Rattle.set_claims.specs.Claims.{SizeSays, MayInsertSays};
+ghost use Rattle.set_claims.specs.declared.NotInserted.{NotInserted};
 
 use address::{Fault, Region};
 
 // Why there is no set to work on.
-#[derive(Drop)]
+#[derive(Clone, Copy, Debug, PartialEq, Eq)]
 pub enum Bad {
     // It does not lie within the words.
     NoSet,
@@ -18,15 +19,8 @@ pub enum Bad {
     Corrupt,
 }
 
-// How many regions a set has.
-#[derive(Drop)]
-pub enum Size {
-    Is(usize),
-    No(Bad),
-}
-
 // Why a region does not go in.
-#[derive(Drop)]
+#[derive(Clone, Copy, Debug, PartialEq, Eq)]
 pub enum NotInserted {
     Bad(Bad),
     // The region is not valid.
@@ -37,25 +31,34 @@ pub enum NotInserted {
     NoRoom,
 }
 
-// Whether a region may go in to the regions that there are.
-#[derive(Drop)]
-pub enum MayInsert {
-    Yes(usize),
-    No(NotInserted),
+impl From<Bad> for NotInserted {
+    ghost from_gives = { λ why e. e ≡ NotInserted.Bad why };
+
+    fn from(why: Bad) -> NotInserted {
+        NotInserted::Bad(why)
+    }
+}
+
+impl From<Fault> for NotInserted {
+    ghost from_gives = { λ fault e. e ≡ NotInserted.NotValid fault };
+
+    fn from(fault: Fault) -> NotInserted {
+        NotInserted::NotValid(fault)
+    }
 }
 
 // How many regions the set has.
-pub fn count(words: &[u64], at: usize, slots: usize) -> Size
+pub fn count(words: &[u64], at: usize, slots: usize) -> Result<usize, Bad>
     ensures { SizeSays words.now at slots result }
 {
     if !set_slots::lies(words, at, slots) {
-        return Size::No(Bad::NoSet);
+        return Err(Bad::NoSet);
     }
     let n = words[at] as usize;
     if slots < n {
-        return Size::No(Bad::Corrupt);
+        return Err(Bad::Corrupt);
     }
-    Size::Is(n)
+    Ok(n)
 }
 
 // Whether slot i is right, if it is one of the first n.
@@ -63,30 +66,20 @@ pub fn is_right(words: &[u64], at: usize, n: usize, i: usize) -> bool
     requires { Lies words.now at n }
     ensures { Says result (i < n → UsedOk words.now at i) }
 {
-    if n <= i {
-        return true;
-    }
-    set_slots::used_ok(words, at, i)
+    n <= i || set_slots::used_ok(words, at, i)
 }
 
 // Whether r may go into the set, and to how many regions.
-pub fn may_insert(words: &[u64], at: usize, slots: usize, r: Region) -> MayInsert
+pub fn may_insert(words: &[u64], at: usize, slots: usize, r: Region) -> Result<usize, NotInserted>
     ensures { MayInsertSays words.now at slots r result }
 {
-    match count(words, at, slots) {
-        Size::No(bad) => MayInsert::No(NotInserted::Bad(bad)),
-        Size::Is(n) => {
-            if !address::valid(r) {
-                let fault = address::validity(r);
-                return MayInsert::No(NotInserted::NotValid(fault));
-            }
-            if set_slots::first_meeting(words, at, n, r) < n {
-                return MayInsert::No(NotInserted::Overlap);
-            }
-            if n == slots {
-                return MayInsert::No(NotInserted::NoRoom);
-            }
-            MayInsert::Yes(n)
-        }
+    let n = count(words, at, slots)?;
+    address::validity(r)?;
+    if set_slots::first_meeting(words, at, n, r) < n {
+        return Err(NotInserted::Overlap);
     }
+    if n == slots {
+        return Err(NotInserted::NoRoom);
+    }
+    Ok(n)
 }

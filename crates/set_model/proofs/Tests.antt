@@ -1,6 +1,7 @@
 -- What the tests of a region say. Assumes nothing.
 use mathlib.Core.Path.{◌≡◌, refl, sym, ◌∙◌, ap}
-use mathlib.Core.Bool.{Bool, true, false}
+use mathlib.Core.Bool.{Bool, true, false, ◌&&◌}
+use denote.Enum.Bare.{sameb}
 use Prim.Native.Nat.{ℕ, ◌+◌, ◌*◌, ◌/◌, ◌<◌, ◌≤◌}
 use lib.Dec.{eqb, leb, ltb}
 use native.Mathlib.Omega.{arith}
@@ -9,6 +10,8 @@ use borrow.Author.Tests.{lt-ltb, le-leb, eq-eqb, eqb-true, leb-true, ltb-true}
 use Rattle.base.specs.Says.{Says}
 use Rattle.base.specs.Choices.{both}
 use Rattle.base.proofs.Choices.{both_left, both_right, never}
+use Rattle.address.specs.contracts.Kind.{the_type}
+use Rattle.address.specs.declared.Kind.{Kind}
 use Rattle.address.specs.declared.Region.{Region}
 use Rattle.address.specs.Pages.{Share, Contains}
 use Rattle.address.specs.Regions.{Valid}
@@ -44,6 +47,32 @@ same_equal a b e = ap (same a) (sym e) ∙ same_self a
 
 pub same_said : (a b : Region) (t : Bool) → Says t (a ≡ b) → same a b ≡ t
 same_said a b t s = as_said t (same a b) s (same_is a b) (same_equal a b)
+
+-- `==` of two regions is the same test
+both_and : (x y : Bool) → both x y ≡ (x && y)
+both_and true y = refl
+both_and false y = refl
+
+kind_same : (k l : Kind) → eqb (number_of k) (number_of l) ≡ sameb the_type k l
+unfolding number_of
+kind_same Kind.Ordinary Kind.Ordinary = refl
+kind_same Kind.Ordinary Kind.Device = refl
+kind_same Kind.Ordinary Kind.Shared = refl
+kind_same Kind.Device Kind.Ordinary = refl
+kind_same Kind.Device Kind.Device = refl
+kind_same Kind.Device Kind.Shared = refl
+kind_same Kind.Shared Kind.Ordinary = refl
+kind_same Kind.Shared Kind.Device = refl
+kind_same Kind.Shared Kind.Shared = refl
+
+pub same_equals : (a b : Region) {t : Bool} → t ≡ (eqb a.guest b.guest && (eqb a.host b.host && (eqb a.pages b.pages && sameb the_type a.kind b.kind))) → same a b ≡ t
+unfolding same
+same_equals a b e =
+    let g = eqb a.guest b.guest in
+    let h = eqb a.host b.host in
+    let p = eqb a.pages b.pages in
+    let k = eqb (number_of a.kind) (number_of b.kind) in
+    both_and g (both h (both p k)) ∙ (ap (λ (x : Bool). g && x) (both_and h (both p k) ∙ ap (λ (x : Bool). h && x) (both_and p k ∙ ap (λ (x : Bool). p && x) (kind_same a.kind b.kind))) ∙ sym e)
 
 -- ---- regions that have a guest page in common
 

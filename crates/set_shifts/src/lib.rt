@@ -9,16 +9,14 @@ ghost use Rattle.set_shifts.specs.Shifts.{ShiftedUp, ShiftedDown, LeftOut, Wiped
 
 use address::{Kind, Region};
 
-// Moves the slots from p up to n up by one.
+// Moves the slots from p up to n up by one. Not `copy_within`, since a slot's kind is written anew.
 pub fn shift_up(z: &mut [u64], at: usize, p: usize, n: usize)
     requires { (p ≤ n) × Lies z.old at (n + 1) }
     ensures { ShiftedUp z.old at p n z.new }
 {
-    let mut i = n;
-    while p < i {
-        let r = region_words::get(z, at + 1 + 4 * (i - 1));
-        region_words::put(z, at + 1 + 4 * i, r);
-        i -= 1;
+    for i in (p..n).rev() {
+        let r = region_words::get(z, at + 1 + 4 * i);
+        region_words::put(z, at + 1 + 4 * (i + 1), r);
     }
 }
 
@@ -27,11 +25,9 @@ pub fn shift_down(z: &mut [u64], at: usize, p: usize, last: usize)
     requires { (p ≤ last) × Lies z.old at (last + 1) }
     ensures { ShiftedDown z.old at p last z.new }
 {
-    let mut i = p;
-    while i < last {
+    for i in p..last {
         let r = region_words::get(z, at + 1 + 4 * (i + 1));
         region_words::put(z, at + 1 + 4 * i, r);
-        i += 1;
     }
 }
 
@@ -64,9 +60,7 @@ pub fn wipe(z: &mut [u64], at: usize, slots: usize)
     requires { Lies z.old at slots }
     ensures { Wiped z.old at slots z.new }
 {
-    let mut i = 0;
-    while i < slots {
+    for i in 0..slots {
         erase(z, at + 1 + 4 * i);
-        i += 1;
     }
 }

@@ -13,19 +13,21 @@ use Rattle.address.specs.Pages.{Contains}
 use Rattle.set_model.specs.Sets.{any, find, table, covers}
 use Rattle.set_model.proofs.Tests.{as_said, covers_contains, contains_covers}
 use Rattle.set_model.proofs.Lists.{table_none, table_some, table_find}
-use Rattle.set_slots.specs.Slots.{slot, regions_in, Lies, Readable, Fails}
+use Rattle.set_slots.specs.Slots.{slot, regions_in, Lies, Readable, Fails, FirstPassing}
 
 -- the test of a guest address is what is said of it
 pub covers_said : (addr : ℕ) (r : Region) (t : Bool) → Says t (Contains r.guest r.pages addr) → covers addr r ≡ t
 covers_said addr r t s = as_said t (covers addr r) s (covers_contains addr r) (contains_covers addr r)
 
--- what a test of the region that was read says of the slot
-pub of_slot : (p : Region → Bool) {x y : Region} {v : Bool} → x ≡ y → p x ≡ v → p y ≡ v
-of_slot p e f = sym (ap p e) ∙ f
-
--- a test that passes does not fail
-pub passes : {b : Bool} → b ≡ true → b ≡ false → ⊥
-passes e f = never (sym e ∙ f)
+-- a search by a test that answers what t is
+pub by_test : {Says : Region → Bool → Type 0} {z : List ℕ} {at n i : ℕ} (t : Region → Bool) → FirstPassing Says z at n i → ((r : Region) (b : Bool) → Says r b → t r ≡ b) → Stops (Fails t z at) 0 n i
+by_test t f says =
+    record {
+      low = omega arith;
+      high = f.high;
+      before = λ k l h. says _ false (f.before k h);
+      fails = λ l e. never (sym (says _ true (f.passes l)) ∙ e);
+    }
 
 -- the regions of a set whose count is not above its slots
 pub regions_are : {z : List ℕ} {at slots n : ℕ} → Readable z at slots → n ≡ get_or z at 0 → regions_in z at slots ≡ table (slot z at) n

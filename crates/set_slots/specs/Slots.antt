@@ -1,5 +1,5 @@
 -- The words of a set of regions: a count at `at`, and behind it slots of four words each. Assumes nothing.
-use Rattle.std.specs.Prelude.{◌≡◌, Bool, false, List, ℕ, ◌+◌, ◌*◌, ◌≤◌, ◌<◌, min, ltb, length, get_or}
+use Rattle.std.specs.Prelude.{◌≡◌, Bool, true, false, List, ℕ, ◌+◌, ◌*◌, ◌≤◌, ◌<◌, min, ltb, length, get_or}
 use Rattle.base.specs.Ranges.{Only}
 use Rattle.address.specs.declared.Region.{Region}
 use Rattle.address.specs.Regions.{Valid}
@@ -28,6 +28,12 @@ pub record Readable (z : List ℕ) (at slots : ℕ) : Type 0 where
 -- the region in slot i does not pass the test
 abbrev pub Fails : (Region → Bool) → List ℕ → ℕ → ℕ → Type 0
 Fails t z at i = t (slot z at i) ≡ false
+
+-- slot i is the first of the first n whose region passes a test, or n, where `Says r b` is that the test can answer b of a region r
+pub record FirstPassing (Says : Region → Bool → Type 0) (z : List ℕ) (at n i : ℕ) : Type 0 where
+  pub high : i ≤ n
+  pub before : (k : ℕ) → k < i → Says (slot z at k) false
+  pub passes : i < n → Says (slot z at i) true
 
 -- r starts above the guest address
 abbrev pub above : ℕ → Region → Bool

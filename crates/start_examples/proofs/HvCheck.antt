@@ -6,6 +6,7 @@ use native.Mathlib.Nat.{zero-mul}
 use native.Mathlib.Omega.{arith}
 use lib.Dec.{lit<, lit≤}
 use lib.ListN.{length, get_or, replicate}
+use Rattle.std.proofs.Common.{Ok, Err}
 use Rattle.bitmap_examples.proofs.Trees.{one, taken, not_full_lem}
 use Rattle.allocator_examples.proofs.Memories.{nobody, all_reserved, behind_free, accounted_free, accounted_reserved}
 use Rattle.frames_examples.proofs.Words.{zeros, zeros_backed, zero_frame, clean_free}
@@ -26,26 +27,26 @@ use Rattle.hv_state.specs.Serving.{mem}
 use Rattle.hv_state.proofs.Sizes as sizes
 use Rattle.hv_state.proofs.Sizes.{same, every_configuration}
 use Rattle.hv_check.specs.declared.Fault.{Fault}
-use Rattle.hv_check.specs.declared.Checked.{Checked}
+use Rattle.hv_check.specs.declared.NotSound.{NotSound}
 use Rattle.hv_check.specs.Checking.{CheckSays, FaultSays, FrameRight, FrameOf, InOrder}
 use Rattle.hv_check.proofs.Parts.{sound_machine}
 use Rattle.hv_set_right.specs.Right.{SetRight}
 use Rattle.machine_examples.proofs.Memories.{away, slots_one, is_zone, none_ok, regions_none}
 use Rattle.machine_examples.proofs.HvRequest.{started}
 use Rattle.start_examples.proofs.Lent.{tight, short, wide, wide_ok}
-use Rattle.start_examples.proofs.HvStart.{start_done}
+use Rattle.start_examples.proofs.HvStart.{start_ok}
 
-pub check_sound : CheckSays started Checked.Sound
-check_sound = start_done.sound
+pub check_ok : CheckSays started (Ok tt)
+check_ok = start_ok.sound
 
-pub check_table : CheckSays (mem [] away one nobody zeros) Checked.Table
+pub check_table : CheckSays (mem [] away one nobody zeros) (Err NotSound.Table)
 check_table = (λ w. let e = w.table.long in omega (arith, e), λ s. let e = s.table.table.long in omega (arith, e))
 
 -- one word for two machines
 unshaped : Shaped short (table_config table).machines → ⊥
 unshaped s = let e = rw machines_is at s.exact in omega (arith, e)
 
-pub check_zones : CheckSays (mem table short one nobody zeros) Checked.Zones
+pub check_zones : CheckSays (mem table short one nobody zeros) (Err NotSound.Zones)
 check_zones = ((writable, unshaped), λ s. unshaped s.zones.flagged.shaped)
 
 -- ---- a machine's words
@@ -60,14 +61,14 @@ place_first slots = zero-mul (stride slots)
 
 -- its words are wrong
 wrong : (z : List ℕ) (why : Fault) → Shaped z (table_config table).machines → FaultSays (table_config table) z (slots_in z (table_config table).machines) 0 why
-    → (Sound (mem table z one nobody zeros) → ⊥) → CheckSays (mem table z one nobody zeros) (Checked.Machine 0 why)
+    → (Sound (mem table z one nobody zeros) → ⊥) → CheckSays (mem table z one nobody zeros) (Err (NotSound.Machine 0 why))
 wrong z why h f n = ((writable, h, record { machine = some_machine; before = λ k l. absurd (omega arith); is = f }), n)
 
 no_slots : slots_in tight (table_config table).machines ≡ 0
 unfolding slots_in
 no_slots = rw machines_is refl
 
-pub check_machine_few_slots : CheckSays (mem table tight one nobody zeros) (Checked.Machine 0 Fault.FewSlots)
+pub check_machine_few_slots : CheckSays (mem table tight one nobody zeros) (Err (NotSound.Machine 0 Fault.FewSlots))
 check_machine_few_slots =
     wrong tight Fault.FewSlots (record { exact = rw (no_slots, machines_is) refl }) (rw (no_slots, count_is 0 (lit< tt)) (lit< tt))
     (λ s. let e = s.good.plan.room 0 some_machine in let q = rw (no_slots, count_is 0 (lit< tt)) at e in omega arith)
@@ -98,7 +99,7 @@ module _ (z : List ℕ) (long : length z ≡ 22) where
 abbrev strange : List ℕ
 strange = 2 ∷ replicate 21 0
 
-pub check_machine_presence : CheckSays (mem table strange one nobody zeros) (Checked.Machine 0 Fault.Presence)
+pub check_machine_presence : CheckSays (mem table strange one nobody zeros) (Err (NotSound.Machine 0 Fault.Presence))
 check_machine_presence =
     wrong strange Fault.Presence (shaped strange refl) (room strange refl, let e = flag strange refl 2 refl in omega arith)
     (λ s. let l = s.zones.flagged.flags 0 some_machine in let e = flag strange refl 2 refl in omega arith)
@@ -110,13 +111,13 @@ crammed = 1 ∷ 9 ∷ replicate 20 0
 abbrev loaded : List ℕ
 loaded = 1 ∷ 0 ∷ 0 ∷ 0 ∷ 0 ∷ 0 ∷ 9 ∷ replicate 15 0
 
-pub check_machine_processors : CheckSays (mem table crammed one nobody zeros) (Checked.Machine 0 Fault.Processors)
+pub check_machine_processors : CheckSays (mem table crammed one nobody zeros) (Err (NotSound.Machine 0 Fault.Processors))
 check_machine_processors =
     wrong crammed Fault.Processors (shaped crammed refl)
     (room crammed refl, (let e = flag crammed refl 1 refl in omega arith), λ r. nine crammed refl Processors refl r.ok)
     (λ s. nine crammed refl Processors refl (s.zones.sets 0 some_machine Processors))
 
-pub check_machine_devices : CheckSays (mem table loaded one nobody zeros) (Checked.Machine 0 Fault.Devices)
+pub check_machine_devices : CheckSays (mem table loaded one nobody zeros) (Err (NotSound.Machine 0 Fault.Devices))
 unfolding number_of
 check_machine_devices =
     wrong loaded Fault.Devices (shaped loaded refl)
@@ -145,7 +146,7 @@ in_order b s =
     }
 
 away_in_order : InOrder started
-away_in_order = in_order started start_done.sound
+away_in_order = in_order started start_ok.sound
 
 -- the allocator's region is at 65536
 home : 65536 ≡ (table_config table).pool.host
@@ -154,14 +155,14 @@ home = sym (ap (λ (r : Region). r.host) pool_is)
 pages_two : (table_config table).pool.pages ≡ 2
 pages_two = ap (λ (r : Region). r.pages) pool_is
 
-pub check_frames : CheckSays (mem table away [] nobody zeros) Checked.Frames
+pub check_frames : CheckSays (mem table away [] nobody zeros) (Err NotSound.Frames)
 check_frames = ((away_in_order, λ c. not_full_lem c.accounted.matched.full), λ s. not_full_lem s.frames.accounted.matched.full)
 
 -- sixteen frames for seventeen pages
 wide_right : sizes.Right wide
 wide_right = record { ok = wide_ok; few = lit≤ tt; counts = λ m l. lit≤ tt; numbers = below_two (λ m. fork 7 9 m < 65536) (lit< tt) (lit< tt) }
 
-pub check_few_frames : CheckSays (mem (table_of wide) away one nobody zeros) Checked.FewFrames
+pub check_few_frames : CheckSays (mem (table_of wide) away one nobody zeros) (Err NotSound.FewFrames)
 check_few_frames =
     let k = same wide wide_right in
     let x = every_configuration wide wide_right 1 2 17 (record { room = λ m l. lit≤ tt; some = lit< tt; most = lit≤ tt; tree = lit≤ tt; backed = lit≤ tt }) in (
@@ -177,7 +178,7 @@ check_few_frames =
 abbrev three : List ℕ
 three = replicate 1536 0
 
-pub check_few_pages : CheckSays (mem table away one nobody three) Checked.FewPages
+pub check_few_pages : CheckSays (mem table away one nobody three) (Err NotSound.FewPages)
 check_few_pages = (
   (away_in_order, subst (λ (h : ℕ). Clean h one nobody three) home clean, rw pages_two (lit≤ tt), rw pages_two (lit< tt)),
   λ s. let e = s.good.plan.pages in let q = rw pages_two at e in omega arith,
@@ -196,7 +197,7 @@ check_few_pages = (
 abbrev closed : Mem
 closed = mem table away taken nobody zeros
 
-pub check_frame : CheckSays closed (Checked.Frame 0)
+pub check_frame : CheckSays closed (Err (NotSound.Frame 0))
 check_frame = (
   (
     away_in_order,

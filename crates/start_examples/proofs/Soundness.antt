@@ -19,10 +19,10 @@ use Rattle.machine_examples.proofs.HvRegions as regions
 use Rattle.machine_examples.proofs.HvFrames as frames
 use Rattle.machine_examples.proofs.HvFrames.{idle, busy}
 use Rattle.machine_examples.proofs.HvRequest.{started, working}
-use Rattle.start_examples.proofs.HvStart.{start_done}
+use Rattle.start_examples.proofs.HvStart.{start_ok}
 
 pub started_sound : Sound started
-started_sound = start_done.sound
+started_sound = start_ok.sound
 
 pub idle_sound : Sound idle
 idle_sound = (zones.add_zone_done one nobody zeros).sound started_sound

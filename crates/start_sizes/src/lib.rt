@@ -2,36 +2,24 @@
 // words of a table. An inner crate: its functions ask what their callers show.
 #![tactic(auto)]
 
-ghost use Rattle.std.specs.Prelude.{◌≡◌, ◌≤◌};
-ghost use Rattle.base.specs.Search.{Stops};
+ghost use Rattle.std.specs.Prelude.{◌≤◌};
 ghost use Rattle.config_view.specs.View.{viewed, InView};
+ghost use Rattle.config_pairs.specs.Pairs.{FoundSays};
 
-use address::Region;
+use config_view::View;
 
-// The first machine that has more regions than so many slots, or the number of machines.
-pub fn first_crowded(s: &[u8], t: &[u64], slots: usize) -> usize
-    requires { InView s.now t.now }
-    ensures { Stops (λ k. (viewed s.now t.now).count k ≤ slots) 0 (viewed s.now t.now).machines result }
+// The first machine that has more regions than so many slots.
+pub fn first_crowded(v: &View<'_>, slots: usize) -> Option<usize>
+    requires { InView v.now }
+    ensures { FoundSays (λ k. (viewed v.now).count k ≤ slots) (viewed v.now).machines result }
 {
-    let n = config_view::machines(s, t);
-    let mut m = 0;
-    let mut at = config_view::first(s, t);
-    while m < n {
-        if slots < config_view::count(s, t, m, at) {
-            return m;
+    let n = v.machines();
+    let mut at = v.first();
+    for m in 0..n {
+        if slots < v.count(m, at) {
+            return Some(m);
         }
-        at = config_view::next(s, t, m, at);
-        m += 1;
+        at = v.next(m, at);
     }
-    m
-}
-
-// The allocator's region.
-pub fn pool_of(s: &[u8], t: &[u64]) -> Region
-    requires { InView s.now t.now }
-    ensures { result ≡ (viewed s.now t.now).pool }
-{
-    let n = config_view::machines(s, t);
-    let end = config_singles::end_of(s, t);
-    config_view::pool(s, t, n, end)
+    None
 }

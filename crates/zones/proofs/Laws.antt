@@ -1,37 +1,28 @@
 -- Where machines lie: inside, and apart from each other. Assumes nothing.
-use mathlib.Core.Path.{◌≡◌, sym, ◌∙◌, ap, subst}
+use mathlib.Core.Path.{◌≡◌, refl, sym, ◌∙◌, ap, subst}
 use mathlib.Core.List.{List}
 use Prim.Native.Nat.{ℕ, zero, suc, ◌+◌, ◌-◌, ◌*◌, ◌/◌, ◌^◌, ◌≤◌, ◌<◌, max}
 use lib.Dec.{eqb}
 use lib.ListN.{length, get_or}
+use Rattle.std.proofs.Common.{Result, Ok, Err}
 use native.Mathlib.Nat.{mul-le-mul_left, mul-le-mul_right, mul-div_cancel_left, div-mul-le_self, suc-mul, mul_comm}
 use native.Mathlib.Decide.{dec_lt}
 use native.Mathlib.Omega.{arith}
 use borrow.Author.Tests.{eq-eqb, ne_eqb}
-use Rattle.base.proofs.Choices.{lowest_is}
+use Rattle.base.proofs.Choices.{lowest_is, lowest_none}
 use Rattle.config_model.specs.Config.{Config}
-use Rattle.config_table.specs.Holding.{HasNumber}
+use Rattle.config_table.specs.Holding.{HasNumber, MachineSays}
+use Rattle.config_table.specs.declared.Unlisted.{Unlisted}
 use Rattle.machine.specs.Step.{machine_of}
 use Rattle.config_view.specs.Table.{table_config}
 use Rattle.zones.specs.declared.Located.{Located}
-use Rattle.zones.specs.Layout.{stride, slots_in, place_of, Shaped, Flagged, PresenceTold, LookSays, LocateSays}
+use Rattle.zones.specs.declared.NotLocated.{NotLocated}
+use Rattle.zones.specs.Layout.{stride, slots_in, place_of, Shaped, Flagged, PresenceTold, IsZone, LookSays, LocateSays, unlisted}
 
--- the slots as they are computed of so many words: a is the number of machines, 1 at least, and b what each has, 3 words at least
-module _ (words n a b s : ℕ) (ea : a ≡ max 1 n) (eb : b ≡ max 3 (words / a)) (es : s ≡ (b - 3) / 8) where
-  pub slots_are : (z : List ℕ) → length z ≡ words → s ≡ slots_in z n
-  unfolding slots_in
-  slots_are z e = rw e (let f : b ≡ max 3 (words / max 1 n) = eb ∙ ap (λ (x : ℕ). max 3 (words / x)) ea in omega arith)
-
-  -- all machines together have no more words than there are, or few
-  pub few_words_lem : words < 2 ^ 64 → n ≤ 64 → (3 + 8 * s) * n < 2 ^ 64
-  few_words_lem l h = go (dec_lt (words / a) 3)
-    where
-      go : Dec (words / a < 3) → (3 + 8 * s) * n < 2 ^ 64
-      go (yes q) = let e : s ≡ 0 = omega arith in rw e (omega arith)
-      go (no q) =
-          let c = mul-le-mul_right n (let d : 3 + 8 * s ≤ words / a = omega (arith, q) in d) in
-          let d = mul-le-mul_left (words / a) (let e : n ≤ a = omega arith in e) in
-          let e = div-mul-le_self words a in omega arith
+-- the slots as they are computed
+pub slots_are : (z : List ℕ) (n a b : ℕ) → a ≡ max n 1 → b ≡ length z / a - 3 → b / 8 ≡ slots_in z n
+unfolding slots_in
+slots_are z n a b e f = let g : a ≡ max 1 n = omega arith in ap (λ (x : ℕ). x / 8) (f ∙ ap (λ (x : ℕ). length z / x - 3) g)
 
 -- a machine's words end where the next one's begin
 pub place_next : (slots m : ℕ) → place_of slots m + stride slots ≡ place_of slots (suc m)
@@ -77,16 +68,29 @@ pub inside_by : (z : List ℕ) (n m s : ℕ) → Shaped z n → s ≡ slots_in z
 unfolding place_of
 inside_by z n m s h e l = rw e (place_inside z n m h l)
 
+-- a machine of n, by the slots as they are computed
+pub is_zone : (z : List ℕ) (n m s : ℕ) → m < n → Shaped z n × (s ≡ slots_in z n) → IsZone z n m (record { index = m; place = m * (3 + 8 * s); slots = s })
+is_zone z n m s l h = record { index = refl; machine = l; shaped = h.0; slots = h.1; place = place_is z n m s h.1; inside = place_inside z n m h.0 l }
+
+-- a machine that the table does not list is not found
+pub not_listed : (t z : List ℕ) (number : ℕ) (why : Unlisted) → MachineSays t number (Err why) → LocateSays t z number (Err (unlisted why))
+not_listed t z number Unlisted.NoMachine h = (h.0, lowest_none _ _ (λ k l. ne_eqb _ _ (h.1 k l)))
+not_listed t z number Unlisted.NoTable h = λ l. absurd (h l)
+
 -- what is said of machine m of n is said of the machine that has the number
-pub located : (t z : List ℕ) (number n m : ℕ) (r : Located) → m < n → length t ≡ 8325 → m ≡ machine_of (table_config t) number → n ≡ (table_config t).machines → LookSays z n m r → LocateSays t z number r
-located t z number n m (Located.Here zone) k l e f s = (l, subst (λ (x : ℕ). LookSays z (table_config t).machines x (Located.Here zone)) e (subst (λ (x : ℕ). LookSays z x m (Located.Here zone)) f s))
-located t z number n m (Located.Away zone) k l e f s = (l, subst (λ (x : ℕ). LookSays z (table_config t).machines x (Located.Away zone)) e (subst (λ (x : ℕ). LookSays z x m (Located.Away zone)) f s))
-located t z number n m Located.NoMachine k l e f s = absurd s
-located t z number n m Located.Corrupt k l e f s =
-    λ q. (omega arith, subst (λ (x : ℕ). LookSays z (table_config t).machines x Located.Corrupt) e (subst (λ (x : ℕ). LookSays z x m Located.Corrupt) f s))
+pub located : (t z : List ℕ) (number n m : ℕ) (r : Result Located NotLocated) → MachineSays t number (Ok m) → n ≡ (table_config t).machines → LookSays z n m r → LocateSays t z number r
+located t z number n m r h f s =
+    let e = sym (number_is (table_config t) number m h.1) in
+    found r (let l = h.1.machine in omega arith) (subst (λ (x : ℕ). LookSays z (table_config t).machines x r) e (subst (λ (x : ℕ). LookSays z x m r) f s))
+  where
+    found : (r : Result Located NotLocated) → machine_of (table_config t) number < (table_config t).machines → LookSays z (table_config t).machines (machine_of (table_config t) number) r → LocateSays t z number r
+    found (Ok (Located.Here zone)) l s = (h.0, s)
+    found (Ok (Located.Away zone)) l s = (h.0, s)
+    found (Err NotLocated.NoMachine) l s = absurd s
+    found (Err NotLocated.Corrupt) l s = λ q. (l, s)
 
 -- a machine of words that are in order is not called corrupt
-pub not_corrupt : (t z : List ℕ) (number : ℕ) → LocateSays t z number Located.Corrupt → length t ≡ 8325 → Flagged z (table_config t).machines → ⊥
+pub not_corrupt : (t z : List ℕ) (number : ℕ) → LocateSays t z number (Err NotLocated.Corrupt) → length t ≡ 8325 → Flagged z (table_config t).machines → ⊥
 not_corrupt t z number h l f = let c = h l in c.1 (record { shaped = f.shaped; flag = f.flags (machine_of (table_config t) number) c.0 })
 
 -- so many machines' words have so many slots

@@ -5,49 +5,77 @@
 #![tactic(auto)]
 
 ghost use Rattle.std.specs.Prelude.{◌≡◌, ◌+◌, ◌*◌, ◌^◌, ◌≤◌, ◌<◌};
-ghost use Rattle.zones.specs.Layout.{set_at, ShapeSays, LookSays, LocateSays};
+ghost use Rattle.zones.specs.declared.NotLocated.{NotLocated};
+ghost use Rattle.zones.specs.Layout.{set_at, ShapeSays, LookSays, LocateSays, unlisted, not_located};
 
-use config_table::Counted;
-use machine::Which;
-
-// For how many regions each set has room.
-#[derive(Drop)]
-pub enum Shape {
-    Slots(usize),
-    // The words are not those of so many machines.
-    Wrong,
-}
+use config_table::{NoTable, Unlisted};
+use machine::{Reason, Refusal, Which};
 
 // A machine: its place in the configuration, where its words begin, and the slots of each of its sets.
-#[derive(Drop)]
+#[derive(Clone, Copy, Debug, PartialEq, Eq)]
 pub struct Zone {
     pub index: usize,
     pub place: usize,
     pub slots: usize,
 }
 
-// The machine that has a number.
-#[derive(Drop)]
+// A machine of the configuration, and whether it is there.
+#[derive(Clone, Copy, Debug, PartialEq, Eq)]
 pub enum Located {
     Here(Zone),
     // It has not been added.
     Away(Zone),
+}
+
+// Why a machine is not found.
+#[derive(Clone, Copy, Debug, PartialEq, Eq)]
+pub enum NotLocated {
+    // No machine of the configuration has the number.
     NoMachine,
     // The table or the words are not in order.
     Corrupt,
 }
 
-// For how many regions each set of n machines has room.
-pub fn measure(zones: &[u64], n: usize) -> Shape
+impl From<NoTable> for NotLocated {
+    ghost from_gives = { λ _ e. e ≡ NotLocated.Corrupt };
+
+    fn from(_why: NoTable) -> NotLocated {
+        Self::Corrupt
+    }
+}
+
+impl From<Unlisted> for NotLocated {
+    ghost from_gives = { λ why e. e ≡ unlisted why };
+
+    fn from(why: Unlisted) -> NotLocated {
+        match why {
+            Unlisted::NoMachine => Self::NoMachine,
+            Unlisted::NoTable => Self::Corrupt,
+        }
+    }
+}
+
+impl From<NotLocated> for Refusal {
+    ghost from_gives = { λ why e. e ≡ not_located why };
+
+    fn from(why: NotLocated) -> Refusal {
+        match why {
+            NotLocated::NoMachine => Self::No(Reason::NoMachine),
+            NotLocated::Corrupt => Self::Corrupt,
+        }
+    }
+}
+
+// For how many regions each set of n machines has room; none if the words are not those of n machines.
+pub fn measure(zones: &[u64], n: usize) -> Option<usize>
     requires { n ≤ 64 }
     ensures { ShapeSays zones.now n result }
 {
-    let each = zones.len() / base::most(1, n);
-    let slots = (base::most(3, each) - 3) / 8;
+    let slots = (zones.len() / n.max(1)).saturating_sub(3) / 8;
     if (3 + 8 * slots) * n != zones.len() {
-        return Shape::Wrong;
+        return None;
     }
-    Shape::Slots(slots)
+    Some(slots)
 }
 
 // Where a set begins of the machine whose words begin at a place.
@@ -62,42 +90,32 @@ pub fn set_at(place: usize, slots: usize, which: Which) -> usize
 }
 
 // Machine m of n: where its words are, and whether it is there.
-pub fn look(zones: &[u64], n: usize, m: usize) -> Located
+pub fn look(zones: &[u64], n: usize, m: usize) -> Result<Located, NotLocated>
     requires { (n ≤ 64) × (m < n) }
     ensures { LookSays zones.now n m result }
 {
-    match measure(zones, n) {
-        Shape::Wrong => Located::Corrupt,
-        Shape::Slots(slots) => {
-            let place = m * (3 + 8 * slots);
-            let flag = zones[place];
-            let zone = Zone {
-                index: m,
-                place: place,
-                slots: slots,
-            };
-            if flag == 1 {
-                return Located::Here(zone);
-            }
-            if flag == 0 {
-                return Located::Away(zone);
-            }
-            Located::Corrupt
-        }
+    let Some(slots) = measure(zones, n) else {
+        return Err(NotLocated::Corrupt);
+    };
+    let place = m * (3 + 8 * slots);
+    let zone = Zone {
+        index: m,
+        place,
+        slots,
+    };
+    match zones[place] {
+        0 => Ok(Located::Away(zone)),
+        1 => Ok(Located::Here(zone)),
+        _ => Err(NotLocated::Corrupt),
     }
 }
 
 // Finds the machine that has a number.
-pub fn locate(table: &[u64], zones: &[u64], number: u64) -> Located
+#[tactic(auto, using(crate::proofs::Laws::not_listed))]
+pub fn locate(table: &[u64], zones: &[u64], number: u64) -> Result<Located, NotLocated>
     ensures { LocateSays table.now zones.now number result }
 {
-    match config_table::machine(table, number) {
-        Counted::NoTable => Located::Corrupt,
-        Counted::NoMachine => Located::NoMachine,
-        Counted::Number(m) => match config_table::machines(table) {
-            Counted::NoTable => Located::Corrupt,
-            Counted::NoMachine => Located::Corrupt,
-            Counted::Number(n) => look(zones, n, m),
-        },
-    }
+    let m = config_table::machine(table, number)?;
+    let n = config_table::machines(table)?;
+    look(zones, n, m)
 }

@@ -1,9 +1,8 @@
 -- `bitmap_runs::look` meets its contract. Assumes nothing.
 use native.Mathlib.Omega.{arith}
-use Rattle.base.proofs.Says.{told}
+use Rattle.std.proofs.Common.{rules}
 use Rattle.bitmap_tree.proofs.Fullness.{full_bound, full_whole}
-use Rattle.bitmap_search.specs.Found.{NextSays}
-use Rattle.bitmap_runs.proofs.Starts.{scan_found, scan_next, scan_jump, scan_none}
+use Rattle.bitmap_runs.proofs.Starts.{scan_found, scan_next, scan_jump, scan_err}
 use Rattle.bitmap_runs.proofs.look.Goals as goal
 
 pub overflow_mul-first : goal.overflow_mul-first
@@ -15,30 +14,24 @@ overflow_add-first c = let b = full_bound _ c.requires.full.0 in let p = c.requi
 pub overflow_sub-first : goal.overflow_sub-first
 overflow_sub-first c = let w = full_whole _ c.requires.full.0 in let l = c.requires.multiples.1.low in omega arith
 
-pub next_from-requires : goal.next_from-requires
-next_from-requires c = let w = full_whole _ c.requires.full.0 in let p = c.requires in (p.full.0, omega arith)
-
 pub overflow_add-result : goal.overflow_add-result
 overflow_add-result c =
     let b = full_bound _ c.requires.full.0 in
-    let nx = told (NextSays _ _) c.in-Frame.is c.next_from.ensures in
+    let nx = c.in_ok-f.ensures in
     let h = nx.within in
     omega arith
 
-pub returns-in-Nothing : goal.returns-in-Nothing
-returns-in-Nothing c =
+pub returns-in_err-f : goal.returns-in_err-f
+returns-in_err-f c =
     let p = c.requires in
-    scan_none _ _ _ _ p.full.0 p.full.2 p.full.3 p.full.4 (c.shared_slice_known-2-1.given c.args.p).fits p.multiples.1
-    (told (NextSays _ _) c.in-Nothing.is c.next_from.ensures)
+    let h = scan_err _ _ _ _ p.full.0 p.full.2 p.full.3 p.full.4 (c.shared_slice_known-2-1.given c.args.p).fits p.multiples.1 _ c.in_err-f.ensures in
+    search rules
 
-pub returns-in-Corrupt : goal.returns-in-Corrupt
-returns-in-Corrupt c = told (NextSays _ _) c.in-Corrupt.is c.next_from.ensures
-
-pub returns-in-Frame : goal.returns-in-Frame
-returns-in-Frame c =
+pub returns-then-word-eq0 : goal.returns-then-word-eq0
+returns-then-word-eq0 c =
     let p = c.requires in
     scan_jump _ _ _ _ p.full.0 p.full.2 p.full.3 p.full.4 (c.shared_slice_known-2-1.given c.args.p).fits p.multiples.1 _ p.full.1 c.if-word-eq0.true
-    (told (NextSays _ _) c.in-Frame.is c.next_from.ensures)
+    (c.in_ok-f.ensures)
 
 pub overflow_add-result-then-i-lt16 : goal.overflow_add-result-then-i-lt16
 overflow_add-result-then-i-lt16 c = let b = full_bound _ c.requires.full.0 in let p = c.requires in let h = c.lowest-i.ensures.high in omega arith
@@ -51,9 +44,6 @@ returns-then-i-lt16 c =
     let p = c.requires in
     scan_found _ _ _ _ p.full.0 p.full.2 p.full.3 p.full.4 (c.shared_slice_known-2-1.given c.args.p).fits p.multiples.1 _ _ _ p.multiples.0
     (rw c.word_at.ensures at c.starts-starts.ensures) c.lowest-i.ensures c.if-i-lt16.true
-
-pub overflow_add-result-2 : goal.overflow_add-result-2
-overflow_add-result-2 c = let b = full_bound _ c.requires.full.0 in let p = c.requires in omega arith
 
 pub returns : goal.returns
 returns c =

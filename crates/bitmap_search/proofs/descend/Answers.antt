@@ -2,14 +2,8 @@
 use native.Mathlib.Omega.{arith}
 use lib.ListN.{get_or}
 use Rattle.bits16.proofs.Laws.{lowest_some}
-use Rattle.bitmap_search.proofs.Descent.{descend_start, descend_step, descend_done, never_none}
+use Rattle.bitmap_search.proofs.Descent.{descend_step, descend_done, never_none}
 use Rattle.bitmap_search.proofs.descend.Goals as goal
-
-pub loop-m-init : goal.loop-m-init
-loop-m-init c = let p = c.requires in descend_start _ _ p.0 p.3
-
-pub offset_bounds-tree-m : goal.offset_bounds-tree-m
-offset_bounds-tree-m c = omega arith
 
 pub returns-then-i-eq16 : goal.returns-then-i-eq16
 returns-then-i-eq16 c = λ a.
@@ -19,9 +13,6 @@ returns-then-i-eq16 c = λ a.
     let some = never_none t _ l.m l.invariant c.loop-m-test.true a in
     let lt = lowest_some (get_or t l.m 0) c.lowest-i.result fits.fits c.lowest-i.ensures some in
     omega (arith, c.if-i-eq16.true)
-
-pub overflow_add-m-in-loop-m : goal.overflow_add-m-in-loop-m
-overflow_add-m-in-loop-m c = let h = c.lowest-i.ensures.high in omega arith
 
 pub loop-m-preserved : goal.loop-m-preserved
 loop-m-preserved c =

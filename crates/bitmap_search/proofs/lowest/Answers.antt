@@ -1,8 +1,6 @@
 -- `bitmap_search::lowest` meets its contract. Assumes nothing.
 use native.Mathlib.Omega.{arith}
-use Rattle.base.proofs.Says.{told}
 use Rattle.bitmap_tree.proofs.Fullness.{full_bound}
-use Rattle.bitmap_search.specs.Found.{DownSays}
 use Rattle.bitmap_search.proofs.Descent.{root_says_none, under_root}
 use Rattle.bitmap_search.proofs.lowest.Goals as goal
 
@@ -15,11 +13,5 @@ returns-then-tree-eq0 c = (c.if-tree-eq0.true, root_says_none _ c.requires c.if-
 pub descend-requires : goal.descend-requires
 descend-requires c = let b = full_bound _ c.requires in (omega arith, b.0, b.1, record { set = λ l. absurd (omega arith); root = λ _. c.if-tree-eq0.false })
 
-pub overflow_sub-result : goal.overflow_sub-result
-overflow_sub-result c = let u = told (DownSays _ _) c.in-To.is c.descend.ensures in u.low
-
-pub returns-in-To : goal.returns-in-To
-returns-in-To c = under_root _ _ c.requires (told (DownSays _ _) c.in-To.is c.descend.ensures)
-
-pub returns-in-Lie : goal.returns-in-Lie
-returns-in-Lie c = told (DownSays _ _) c.in-Lie.is c.descend.ensures
+pub returns : goal.returns
+returns c = under_root _ _ c.requires (c.in_ok-j.ensures)

@@ -2,12 +2,10 @@
 use mathlib.Core.Path.{refl, ◌∙◌}
 use Prim.Native.Nat.{◌-◌, ◌/◌}
 use native.Mathlib.Omega.{arith}
-use Rattle.base.proofs.Says.{told}
 use lib.ListN.{get_or}
 use Rattle.bits16.proofs.Laws.{lowest_set}
 use Rattle.bitmap_tree.proofs.Nodes.{child_bit}
 use Rattle.bitmap_tree.proofs.Fullness.{full_bound}
-use Rattle.bitmap_search.specs.Found.{DownSays}
 use Rattle.bitmap_search.proofs.Rise.{rise_start, rise_step, rise_done, found_next}
 use Rattle.bitmap_search.proofs.next_from.Goals as goal
 
@@ -25,21 +23,6 @@ loop-n-init c =
     let p = c.requires in
     let b = full_bound _ p.0 in
     rise_start _ _ p.0 (omega arith) (omega arith) (omega arith)
-
-pub offset_bounds-tree-p : goal.offset_bounds-tree-p
-offset_bounds-tree-p c = omega arith
-
-pub bounds-tree-p : goal.bounds-tree-p
-bounds-tree-p c = let i = c.loop-n.invariant in let p = i.pos in let t = i.top in omega arith
-
-pub overflow_mul-p : goal.overflow_mul-p
-overflow_mul-p c = let b = full_bound _ c.requires.0 in let t = c.loop-n.invariant.top in omega arith
-
-pub overflow_add-p : goal.overflow_add-p
-overflow_add-p c = let b = full_bound _ c.requires.0 in let t = c.loop-n.invariant.top in omega arith
-
-pub overflow_add-p-then-i-lt16 : goal.overflow_add-p-then-i-lt16
-overflow_add-p-then-i-lt16 c = let b = full_bound _ c.requires.0 in let t = c.loop-n.invariant.top in omega (arith, c.if-i-lt16.true)
 
 pub descend-requires : goal.descend-requires
 descend-requires c =
@@ -59,20 +42,11 @@ descend-requires c =
       },
     )
 
-pub overflow_sub-result : goal.overflow_sub-result
-overflow_sub-result c = let u = told (DownSays _ _) c.in-To.is c.descend.ensures in u.low
-
-pub returns-in-To : goal.returns-in-To
-returns-in-To c =
+pub returns-then-i-lt16 : goal.returns-then-i-lt16
+returns-then-i-lt16 c =
     let l = c.loop-n in
     found_next c.args.tree.now _ l.n l.end c.lowest_from-i.result c.loop-n-test.true l.invariant c.lowest_from-i.ensures _ _ refl c.if-i-lt16.true
-    (told (DownSays _ _) c.in-To.is c.descend.ensures)
-
-pub returns-in-Lie : goal.returns-in-Lie
-returns-in-Lie c = told (DownSays _ _) c.in-Lie.is c.descend.ensures
-
-pub overflow_add-n-in-loop-n : goal.overflow_add-n-in-loop-n
-overflow_add-n-in-loop-n c = let b = full_bound _ c.requires.0 in let t = c.loop-n.invariant.top in omega arith
+    (c.in_ok-r.ensures)
 
 pub loop-n-preserved : goal.loop-n-preserved
 loop-n-preserved c =

@@ -7,17 +7,11 @@ use Rattle.bitmap_search.proofs.taken_until.Goals as goal
 pub overflow_add-n : goal.overflow_add-n
 overflow_add-n c = let q = full_bound _ c.requires.0 in omega arith
 
-pub loop-n-init : goal.loop-n-init
-loop-n-init c = record { low = omega arith; taken = λ k l h. absurd (omega arith) }
-
 pub overflow_add-w : goal.overflow_add-w
 overflow_add-w c = let q = full_bound _ c.requires.0 in omega arith
 
 pub overflow_sub-p : goal.overflow_sub-p
 overflow_sub-p c = let q = full_bound _ c.requires.0 in let l = c.loop-n.invariant.low in omega arith
-
-pub offset_bounds-tree-p : goal.offset_bounds-tree-p
-offset_bounds-tree-p c = omega arith
 
 pub bounds-tree-p : goal.bounds-tree-p
 bounds-tree-p c = let q = full_bound _ c.requires.0 in let l = c.loop-n.invariant.low in omega arith
@@ -25,35 +19,14 @@ bounds-tree-p c = let q = full_bound _ c.requires.0 in let l = c.loop-n.invarian
 pub overflow_sub-n : goal.overflow_sub-n
 overflow_sub-n c = let q = full_bound _ c.requires.0 in let l = c.loop-n.invariant.low in omega arith
 
-pub lowest_from-i-requires : goal.lowest_from-i-requires
-lowest_from-i-requires c = omega arith
-
-pub overflow_mul-p : goal.overflow_mul-p
-overflow_mul-p c = let q = full_bound _ c.requires.0 in let l = c.loop-n.invariant.low in omega arith
-
-pub overflow_add-p : goal.overflow_add-p
-overflow_add-p c = let q = full_bound _ c.requires.0 in let l = c.loop-n.invariant.low in omega arith
-
 pub overflow_add-p-then-i-lt16 : goal.overflow_add-p-then-i-lt16
 overflow_add-p-then-i-lt16 c = let q = full_bound _ c.requires.0 in let l = c.loop-n.invariant.low in omega arith
 
-pub overflow_sub-p-then-i-lt16 : goal.overflow_sub-p-then-i-lt16
-overflow_sub-p-then-i-lt16 c = let l = c.loop-n.invariant.low in let f = c.lowest_from-i.ensures.low in omega arith
-
 pub returns-then-i-lt16 : goal.returns-then-i-lt16
-returns-then-i-lt16 c = let q = full_bound _ c.requires.0 in let l = c.loop-n.invariant.low in rw c.least.ensures (word_ends _ _ c.loop-n.n c.lowest_from-i.result (omega arith) c.loop-n.invariant c.lowest_from-i.ensures _ c.if-i-lt16.true c.loop-n-test.true q.0)
-
-pub overflow_mul-n : goal.overflow_mul-n
-overflow_mul-n c = let q = full_bound _ c.requires.0 in omega arith
+returns-then-i-lt16 c = let q = full_bound _ c.requires.0 in let l = c.loop-n.invariant.low in rw c.min.ensures (word_ends _ _ c.loop-n.n c.lowest_from-i.result (omega arith) c.loop-n.invariant c.lowest_from-i.ensures _ c.if-i-lt16.true c.loop-n-test.true q.0)
 
 pub overflow_add-n-in-loop-n : goal.overflow_add-n-in-loop-n
 overflow_add-n-in-loop-n c = let q = full_bound _ c.requires.0 in omega arith
 
-pub loop-n-smaller : goal.loop-n-smaller
-loop-n-smaller c = omega arith
-
 pub loop-n-preserved : goal.loop-n-preserved
 loop-n-preserved c = let q = full_bound _ c.requires.0 in let l = c.loop-n.invariant.low in let h = c.lowest_from-i.ensures.high in word_passed _ _ c.loop-n.n c.lowest_from-i.result (omega arith) c.loop-n.invariant c.lowest_from-i.ensures (omega (arith, c.if-i-lt16.false))
-
-pub returns : goal.returns
-returns c = record { low = omega arith; high = omega arith; before = λ k l h. c.loop-n.invariant.taken k l (omega arith); fails = λ l. absurd (omega arith) }

@@ -2,34 +2,12 @@
 use mathlib.Core.Path.{sym, ◌∙◌}
 use Prim.Native.Nat.{◌-◌, ◌/◌}
 use native.Mathlib.Omega.{arith}
-use lib.ListN.{length-set}
 use Rattle.bitmap_tree.proofs.Writes.{painted_one, summary_back}
 use Rattle.bitmap_tree.proofs.Ascent.{climb_start, climb_step, climb_stop, climb_done}
 use Rattle.bitmap_tree.proofs.climb.Goals as goal
 
 pub loop-n-init : goal.loop-n-init
 loop-n-init c = climb_start _ _ _ c.requires.3
-
-pub overflow_sub-p : goal.overflow_sub-p
-overflow_sub-p c = omega arith
-
-pub offset_bounds-tree-p : goal.offset_bounds-tree-p
-offset_bounds-tree-p c = let l = c.loop-n.invariant.long in let t = c.loop-n.invariant.top in omega arith
-
-pub bounds-tree-p : goal.bounds-tree-p
-bounds-tree-p c = let l = c.loop-n.invariant.long in let t = c.loop-n.invariant.top in omega arith
-
-pub put-new-requires : goal.put-new-requires
-put-new-requires c = let w = c.loop-n.invariant.two in omega arith
-
-pub offset_bounds-tree-p-in-loop-n : goal.offset_bounds-tree-p-in-loop-n
-offset_bounds-tree-p-in-loop-n c = let l = c.loop-n.invariant.long in let t = c.loop-n.invariant.top in omega arith
-
-pub bounds-tree-p-in-loop-n : goal.bounds-tree-p-in-loop-n
-bounds-tree-p-in-loop-n c = let l = c.loop-n.invariant.long in let t = c.loop-n.invariant.top in omega arith
-
-pub shape_of-tree-then-was-is : goal.shape_of-tree-then-was-is
-shape_of-tree-then-was-is c = let l = c.loop-n.invariant.long in let s = length-set c.loop-n.tree ((c.loop-n.n - 1) / 16) c.put-new.result in omega arith
 
 pub returns-then-was-is : goal.returns-then-was-is
 returns-then-was-is c =
@@ -48,9 +26,6 @@ loop-n-preserved c =
     climb_step _ l.tree _ _ _ l.n l.u c.requires.1 c.loop-n-test.true l.invariant
     (painted_one l.tree l.n l.u c.put-new.result c.loop-n-test.true (omega arith) l.invariant.two c.put-new.ensures)
     _ (summary_back l.tree ((l.n - 1) / 16) c.put-new.result c.some-is.result (omega arith) c.some-is.ensures)
-
-pub shape_of-tree : goal.shape_of-tree
-shape_of-tree c = c.loop-n.invariant.long
 
 pub returns : goal.returns
 returns c =

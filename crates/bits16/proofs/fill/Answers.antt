@@ -8,9 +8,6 @@ use Rattle.bits16.proofs.fill.Goals as goal
 pub overflow_sub-m : goal.overflow_sub-m
 overflow_sub-m c = rw (one_shl c.args.e c.requires.1, one_shl c.args.i (omega arith)) (pow_mono c.requires.0)
 
-pub overflow_cast-m-3 : goal.overflow_cast-m-3
-overflow_cast-m-3 c = record { fits = (mask_filled c.args.i c.args.e c.requires.0 c.requires.1).fits }
-
 pub returns-then-v-eq1 : goal.returns-then-v-eq1
 returns-then-v-eq1 c =
     let a = c.args in

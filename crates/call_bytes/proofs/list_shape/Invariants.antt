@@ -1,10 +1,7 @@
--- What the loop of `call_bytes::list_shape` keeps, and why it ends. Assumes nothing.
-use Prim.Native.Nat.{◌-◌}
-use Rattle.call_bytes.proofs.Laws.{Ahead}
+-- What the loop of `call_bytes::list_shape` keeps. Assumes nothing.
+use Prim.Native.Nat.{ℕ, ◌<◌}
+use Rattle.call_bytes.specs.Calls.{Member}
 use Rattle.call_bytes.proofs.list_shape.Given as goal
 
-abbrev pub invariant-loop-p : goal.invariant-loop-p
-invariant-loop-p l = Ahead l.bytes l.from l.len l.i l.p
-
-abbrev pub decreases-loop-p : goal.decreases-loop-p
-decreases-loop-p l = l.len - l.p
+abbrev pub invariant-loop-i : goal.invariant-loop-i
+invariant-loop-i l = (j : ℕ) → j < l.i → Member l.bytes l.from l.len j

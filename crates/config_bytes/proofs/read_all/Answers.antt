@@ -1,61 +1,36 @@
 -- `config_bytes::read_all` meets its contract. Assumes nothing.
-use mathlib.Core.Path.{sym, ◌∙◌, subst}
-use Prim.Native.Nat.{ℕ, ◌+◌, ◌-◌, ◌*◌, ◌<◌}
+use mathlib.Core.Path.{sym, ◌∙◌}
+use Prim.Native.Nat.{◌<◌, ◌≤◌}
 use native.Mathlib.Omega.{arith}
-use borrow.Author.Tests.{le-leb, lt-leb}
-use lib.ListN.{length}
-use Rattle.base.proofs.Says.{refused, not_refused}
+use borrow.Author.Tests.{lt-leb}
+use Rattle.std.specs.Prelude.{Ok, Err}
 use Rattle.config_bytes.specs.Fields.{machines}
 use Rattle.config_bytes.specs.Reading.{read_of}
-use Rattle.config_bytes.proofs.Laws.{Machines, machines_stop, machines_more, machines_first, machines_end, part_end, part_few}
+use Rattle.config_bytes.proofs.Laws.{handed, machines_found, machines_more, machines_first, machines_end, part_end, after_last}
 use Rattle.config_bytes.proofs.read_all.Goals as goal
 
-pub returns-then-s-lt2 : goal.returns-then-s-lt2
+pub returns-in_err-read_field : goal.returns-in_err-read_field
 unfolding read_of
-returns-then-s-lt2 c = let s = c.args.s.now in simp (lt-leb (0 + 2) (length s) (omega arith))
+returns-in_err-read_field c = handed c.from_residual.result c.from_residual.ensures.1 ∙ sym (c.in_err-read_field.ensures.read _)
 
 pub returns-then-n-gt64 : goal.returns-then-n-gt64
 unfolding read_of
-returns-then-n-gt64 c = let s = c.args.s.now in let h : 64 < machines s = rw (sym c.u16_at-n.ensures.0) c.if-n-gt64.true in simp (le-leb (0 + 2) (length s) (omega arith), lt-leb (machines s) 64 h)
+returns-then-n-gt64 c = let s = c.args.s.now in let h : 64 < machines s = rw (sym c.u16_at-n.ensures.0) c.if-n-gt64.true in sym (c.in_ok-read_field.ensures.read _ ∙ simp (lt-leb (machines s) 64 h))
 
-pub loop-left-init : goal.loop-left-init
-loop-left-init c = let s = c.args.s.now in subst (λ (n : ℕ). Machines s n 0 2) (sym c.u16_at-n.ensures.0) (machines_first s (omega arith) (rw (sym c.u16_at-n.ensures.0) c.if-n-gt64.false))
+pub loop-m-init : goal.loop-m-init
+loop-m-init c = machines_first c.args.s.now c.in_ok-read_field.ensures.whole (rw (sym c.u16_at-n.ensures.0) c.if-n-gt64.false)
 
-pub read_machine-r-requires : goal.read_machine-r-requires
-read_machine-r-requires c = c.loop-left.invariant.within
-
-pub returns-then-not-is_whole : goal.returns-then-not-is_whole
-returns-then-not-is_whole c = machines_stop c.loop-left.invariant c.loop-left-test.true c.read_machine-r.ensures (refused c.is_whole.result c.if-not-is_whole.true-raw c.is_whole.ensures)
-
-pub overflow_add-at : goal.overflow_add-at
-overflow_add-at c = let h = part_end c.loop-left.invariant c.loop-left-test.true c.read_machine-r.ensures (not_refused c.is_whole.result c.if-not-is_whole.false-raw c.is_whole.ensures) in omega arith
+pub returns-in_err-read_machine : goal.returns-in_err-read_machine
+returns-in_err-read_machine c = let l : c.loop-m.m < machines c.args.s.now = rw (sym c.u16_at-n.ensures.0) c.loop-m-test.true in handed c.from_residual-in_err-read_machine.result c.from_residual-in_err-read_machine.ensures.1 ∙ sym (machines_found c.loop-m.invariant l (Err c.in_err-read_machine.field-0.0) c.in_err-read_machine.ensures)
 
 pub u16_at-requires : goal.u16_at-requires
-u16_at-requires c = let h = part_end c.loop-left.invariant c.loop-left-test.true c.read_machine-r.ensures (not_refused c.is_whole.result c.if-not-is_whole.false-raw c.is_whole.ensures) in omega arith
+u16_at-requires c = let h = part_end c.loop-m.invariant (rw (sym c.u16_at-n.ensures.0) c.loop-m-test.true) c.in_ok-read_machine.ensures in omega arith
 
-pub overflow_mul-at : goal.overflow_mul-at
-overflow_mul-at c = let h = part_few c.loop-left.invariant c.loop-left-test.true c.read_machine-r.ensures (not_refused c.is_whole.result c.if-not-is_whole.false-raw c.is_whole.ensures) in omega (arith, c.u16_at.ensures.0)
+pub loop-m-preserved : goal.loop-m-preserved
+loop-m-preserved c = rw c.u16_at.ensures.0 (machines_more c.loop-m.invariant (rw (sym c.u16_at-n.ensures.0) c.loop-m-test.true) c.in_ok-read_machine.ensures)
 
-pub overflow_add-at-in-loop-left : goal.overflow_add-at-in-loop-left
-overflow_add-at-in-loop-left c = let h = part_few c.loop-left.invariant c.loop-left-test.true c.read_machine-r.ensures (not_refused c.is_whole.result c.if-not-is_whole.false-raw c.is_whole.ensures) in omega (arith, c.u16_at.ensures.0)
-
-pub overflow_add-at-in-loop-left-2 : goal.overflow_add-at-in-loop-left-2
-overflow_add-at-in-loop-left-2 c = let h = part_end c.loop-left.invariant c.loop-left-test.true c.read_machine-r.ensures (not_refused c.is_whole.result c.if-not-is_whole.false-raw c.is_whole.ensures) in omega (arith, c.u16_at.ensures.0)
-
-pub overflow_add-m : goal.overflow_add-m
-overflow_add-m c = let e = c.loop-left.invariant.sum in let f = c.loop-left.invariant.few in omega arith
-
-pub loop-left-preserved : goal.loop-left-preserved
-loop-left-preserved c = subst (λ (n : ℕ). Machines c.args.s.now (c.loop-left.left - 1) (c.loop-left.m + 1) (c.loop-left.at + (4 + 25 * n))) (sym c.u16_at.ensures.0) (machines_more c.loop-left.invariant c.loop-left-test.true c.read_machine-r.ensures (not_refused c.is_whole.result c.if-not-is_whole.false-raw c.is_whole.ensures))
-
-pub overflow_sub-have : goal.overflow_sub-have
-overflow_sub-have c = let h = c.loop-left.invariant.within in omega arith
-
-pub returns-then-have-lt8 : goal.returns-then-have-lt8
-returns-then-have-lt8 c = let s = c.args.s.now in let at = c.loop-left.at in let w = c.loop-left.invariant.within in sym (machines_end c.loop-left.invariant c.loop-left-test.false ∙ simp (lt-leb (at + 8) (length s) (omega arith)))
-
-pub returns-then-have-lt16 : goal.returns-then-have-lt16
-returns-then-have-lt16 c = let s = c.args.s.now in let at = c.loop-left.at in let w = c.loop-left.invariant.within in sym (machines_end c.loop-left.invariant c.loop-left-test.false ∙ simp (le-leb (at + 8) (length s) (omega arith), lt-leb (at + 8 + 8) (length s) (omega arith)))
+pub returns-in_err-read_field-2 : goal.returns-in_err-read_field-2
+returns-in_err-read_field-2 c = let l : machines c.args.s.now ≤ c.loop-m.m = rw (sym c.u16_at-n.ensures.0) c.loop-m-test.false in handed c.from_residual-in_err-read_field-2.result c.from_residual-in_err-read_field-2.ensures.1 ∙ sym (machines_end c.loop-m.invariant l ∙ c.in_err-read_field-2.ensures.read _)
 
 pub returns : goal.returns
-returns c = let s = c.args.s.now in let at = c.loop-left.at in let w = c.loop-left.invariant.within in sym (machines_end c.loop-left.invariant c.loop-left-test.false ∙ simp (le-leb (at + 8) (length s) (omega arith), le-leb (at + 8 + 8) (length s) (omega arith)))
+returns c = let l : machines c.args.s.now ≤ c.loop-m.m = rw (sym c.u16_at-n.ensures.0) c.loop-m-test.false in sym (machines_end c.loop-m.invariant l ∙ (c.in_ok-read_field-2.ensures.read _ ∙ (c.read_field-3.ensures.read (Ok tt) ∙ after_last c.read_field-3.result)))

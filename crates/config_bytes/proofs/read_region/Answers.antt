@@ -1,31 +1,32 @@
 -- `config_bytes::read_region` meets its contract. Assumes nothing.
 use Prim.Native.Nat.{◌+◌}
-use native.Mathlib.Omega.{arith}
+use mathlib.Core.Path.{◌∙◌}
 use borrow.Author.Tests.{le-leb, lt-leb}
-use lib.ListN.{length, get_or}
+use lib.ListN.{get_or}
 use Rattle.config_bytes.specs.Reading.{region_read}
+use Rattle.config_bytes.proofs.Laws.{handed}
 use Rattle.config_bytes.proofs.read_region.Goals as goal
 
-pub returns-then-have-lt8 : goal.returns-then-have-lt8
+pub returns-in_err-read_field : goal.returns-in_err-read_field
 unfolding region_read
-returns-then-have-lt8 c = λ next. let s = c.args.s.now in let at = c.args.at in simp (lt-leb (at + 8) (length s) (omega arith))
+returns-in_err-read_field c = λ next. rw (handed c.from_residual.result c.from_residual.ensures.1) (c.in_err-read_field.ensures.read _)
 
-pub returns-then-have-lt16 : goal.returns-then-have-lt16
+pub returns-in_err-read_field-2 : goal.returns-in_err-read_field-2
 unfolding region_read
-returns-then-have-lt16 c = λ next. let s = c.args.s.now in let at = c.args.at in simp (le-leb (at + 8) (length s) (omega arith), lt-leb (at + 8 + 8) (length s) (omega arith))
+returns-in_err-read_field-2 c = λ next. rw (handed c.from_residual-in_err-read_field-2.result c.from_residual-in_err-read_field-2.ensures.1) (c.in_ok-read_field.ensures.read _ ∙ c.in_err-read_field-2.ensures.read _)
 
-pub returns-then-have-lt24 : goal.returns-then-have-lt24
+pub returns-in_err-read_field-3 : goal.returns-in_err-read_field-3
 unfolding region_read
-returns-then-have-lt24 c = λ next. let s = c.args.s.now in let at = c.args.at in simp (le-leb (at + 8) (length s) (omega arith), le-leb (at + 8 + 8) (length s) (omega arith), lt-leb (at + 16 + 8) (length s) (omega arith))
+returns-in_err-read_field-3 c = λ next. rw (handed c.from_residual-in_err-read_field-3.result c.from_residual-in_err-read_field-3.ensures.1) (c.in_ok-read_field.ensures.read _ ∙ (c.in_ok-read_field-2.ensures.read _ ∙ c.in_err-read_field-3.ensures.read _))
 
-pub returns-then-have-lt25 : goal.returns-then-have-lt25
+pub returns-in_err-read_field-4 : goal.returns-in_err-read_field-4
 unfolding region_read
-returns-then-have-lt25 c = λ next. let s = c.args.s.now in let at = c.args.at in simp (le-leb (at + 8) (length s) (omega arith), le-leb (at + 8 + 8) (length s) (omega arith), le-leb (at + 16 + 8) (length s) (omega arith), lt-leb (at + 24 + 1) (length s) (omega arith))
+returns-in_err-read_field-4 c = λ next. rw (handed c.from_residual-in_err-read_field-4.result c.from_residual-in_err-read_field-4.ensures.1) (c.in_ok-read_field.ensures.read _ ∙ (c.in_ok-read_field-2.ensures.read _ ∙ (c.in_ok-read_field-3.ensures.read _ ∙ c.in_err-read_field-4.ensures.read _)))
 
 pub returns-then-s-at-gt2 : goal.returns-then-s-at-gt2
 unfolding region_read
-returns-then-s-at-gt2 c = λ next. let s = c.args.s.now in let at = c.args.at in simp (le-leb (at + 8) (length s) (omega arith), le-leb (at + 8 + 8) (length s) (omega arith), le-leb (at + 16 + 8) (length s) (omega arith), le-leb (at + 24 + 1) (length s) (omega arith), lt-leb (get_or s (at + 24) 0) 2 c.if-s-at-gt2.true)
+returns-then-s-at-gt2 c = λ next. c.in_ok-read_field.ensures.read _ ∙ (c.in_ok-read_field-2.ensures.read _ ∙ (c.in_ok-read_field-3.ensures.read _ ∙ (c.in_ok-read_field-4.ensures.read _ ∙ simp (lt-leb (get_or c.args.s.now (c.args.at + 24) 0) 2 c.if-s-at-gt2.true))))
 
 pub returns : goal.returns
 unfolding region_read
-returns c = λ next. let s = c.args.s.now in let at = c.args.at in simp (le-leb (at + 8) (length s) (omega arith), le-leb (at + 8 + 8) (length s) (omega arith), le-leb (at + 16 + 8) (length s) (omega arith), le-leb (at + 24 + 1) (length s) (omega arith), le-leb (get_or s (at + 24) 0) 2 c.if-s-at-gt2.false)
+returns c = λ next. c.in_ok-read_field.ensures.read _ ∙ (c.in_ok-read_field-2.ensures.read _ ∙ (c.in_ok-read_field-3.ensures.read _ ∙ (c.in_ok-read_field-4.ensures.read _ ∙ simp (le-leb (get_or c.args.s.now (c.args.at + 24) 0) 2 c.if-s-at-gt2.false))))

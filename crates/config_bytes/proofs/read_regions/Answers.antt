@@ -1,28 +1,15 @@
 -- `config_bytes::read_regions` meets its contract. Assumes nothing.
-use borrow.Author.Rules.{rules}
-use mathlib.Core.Path.{refl, ◌∙◌}
+use mathlib.Core.Path.{◌∙◌}
 use native.Mathlib.Omega.{arith}
-use Rattle.base.proofs.Says.{refused, not_refused}
-use Rattle.config_bytes.proofs.Laws.{regions_stop, regions_more, regions_none}
+use Rattle.std.specs.Prelude.{Err}
+use Rattle.config_bytes.proofs.Laws.{handed, regions_found, regions_more, regions_none}
 use Rattle.config_bytes.proofs.read_regions.Goals as goal
 
-pub loop-left-init : goal.loop-left-init
-loop-left-init c = record { within = search rules; sum = search rules; same = λ next. refl }
+pub returns-in_err-read_region : goal.returns-in_err-read_region
+returns-in_err-read_region c = λ next. rw (handed c.from_residual.result c.from_residual.ensures.1) (regions_found (Err c.in_err-read_region.field-0.0) c.loop-i.invariant c.loop-i-test.true c.in_err-read_region.ensures next)
 
-pub read_region-r-requires : goal.read_region-r-requires
-read_region-r-requires c = c.loop-left.invariant.within
-
-pub returns-then-not-is_whole : goal.returns-then-not-is_whole
-returns-then-not-is_whole c = regions_stop c.loop-left.invariant c.loop-left-test.true c.read_region-r.ensures (refused c.is_whole.result c.if-not-is_whole.true-raw c.is_whole.ensures)
-
-pub overflow_add-i : goal.overflow_add-i
-overflow_add-i c = let e = c.loop-left.invariant.sum in omega arith
-
-pub overflow_add-p : goal.overflow_add-p
-overflow_add-p c = let e = c.loop-left.invariant.within in omega arith
-
-pub loop-left-preserved : goal.loop-left-preserved
-loop-left-preserved c = regions_more c.loop-left.invariant c.loop-left-test.true c.read_region-r.ensures (not_refused c.is_whole.result c.if-not-is_whole.false-raw c.is_whole.ensures)
+pub loop-i-preserved : goal.loop-i-preserved
+loop-i-preserved c = regions_more c.loop-i.invariant c.loop-i-test.true c.in_ok-read_region.ensures
 
 pub returns : goal.returns
-returns c = λ next. c.loop-left.invariant.same next ∙ regions_none _ _ _ _ _ next c.loop-left-test.false
+returns c = λ next. c.loop-i.invariant.same next ∙ regions_none _ _ _ _ _ next (omega arith)

@@ -7,4 +7,4 @@ use Rattle.config_bytes.proofs.region_at.Goals as goal
 
 pub returns : goal.returns
 unfolding region_at
-returns c = region_once _ _ c.u64_at-guest.ensures c.u64_at-host.ensures c.u64_at-pages.ensures (c.kind_of-kind.ensures ∙ ap kind_of c.byte.ensures.0)
+returns c = region_once _ _ c.u64_at.ensures c.u64_at-2.ensures c.u64_at-3.ensures (c.kind_of.ensures ∙ ap kind_of c.byte.ensures.0)

@@ -1,12 +1,8 @@
--- What the loop of `config_encode::size_of` keeps, and why it ends. Assumes nothing.
+-- What the loop of `config_encode::size_of` keeps. Assumes nothing.
 use mathlib.Core.Path.{◌≡◌}
-use Prim.Native.Nat.{◌-◌, ◌≤◌}
-use Rattle.config_view.specs.View.{viewed}
+use Rattle.config_view.specs.Table.{table_config}
 use Rattle.config_encode.specs.Encoding.{start_of}
 use Rattle.config_encode.proofs.size_of.Given as goal
 
 abbrev pub invariant-loop-m : goal.invariant-loop-m
-invariant-loop-m l = (l.m ≤ l.n) × (l.p ≡ start_of (viewed l.s l.t) l.m)
-
-abbrev pub decreases-loop-m : goal.decreases-loop-m
-decreases-loop-m l = l.n - l.m
+invariant-loop-m l = (l.p ≡ start_of (table_config l.t) l.m)

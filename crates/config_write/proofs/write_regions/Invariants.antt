@@ -1,11 +1,7 @@
--- What the loop of `config_write::write_regions` keeps, and why it ends. Assumes nothing.
-use Prim.Native.Nat.{◌-◌}
+-- What the loop of `config_write::write_regions` keeps. Assumes nothing.
 use Rattle.config_view.specs.View.{viewed}
 use Rattle.config_write.proofs.Laws.{Regions}
 use Rattle.config_write.proofs.write_regions.Given as goal
 
 abbrev pub invariant-loop-i : goal.invariant-loop-i
-invariant-loop-i l = Regions (viewed l.s l.v) l.m l.i l.initial.t l.t
-
-abbrev pub decreases-loop-i : goal.decreases-loop-i
-decreases-loop-i l = 32 - l.i
+invariant-loop-i l = Regions (viewed l.v) l.m l.i l.initial.t l.t

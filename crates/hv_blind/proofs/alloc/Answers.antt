@@ -1,21 +1,14 @@
 -- `hv_blind::alloc` meets its contract. Assumes nothing.
 use mathlib.Core.Path.{refl}
-use Rattle.base.proofs.Says.{told}
-use Rattle.global_allocator.specs.Changes.{AllocSays}
-use Rattle.hv_state.proofs.Serving.{unsound}
-use Rattle.hv_asker.specs.Asking.{ClientSays}
-use Rattle.hv_asker.proofs.Laws.{disordered, unasked}
+use Rattle.hv_asker.proofs.Laws.{unheard}
 use Rattle.hv_blind.proofs.Laws.{alloc_at, alloc_no}
 use Rattle.hv_blind.proofs.alloc.Goals as goal
 
-pub returns-in-Corrupt : goal.returns-in-Corrupt
-returns-in-Corrupt c = λ w blank. unsound _ _ _ _ (disordered _ (told (ClientSays _ _ _) c.in-Corrupt.is c.client_that_asks.ensures))
+pub returns-in-Err : goal.returns-in-Err
+returns-in-Err c = λ w blank. unheard _ _ _ _ _ (λ s m. refl) c.from.ensures c.in-Err.ensures
 
-pub returns-in-No : goal.returns-in-No
-returns-in-No c = λ w blank. unasked _ _ _ _ (λ s m. refl) (told (ClientSays _ _ _) c.in-No.is c.client_that_asks.ensures)
+pub returns-in-Ok-alloc : goal.returns-in-Ok-alloc
+returns-in-Ok-alloc c = λ w blank. alloc_at _ _ _ _ w blank _ _ c.in-Ok.ensures _ _ _ c.in-Ok-alloc.ensures
 
-pub returns-in-At : goal.returns-in-At
-returns-in-At c = λ w blank. alloc_at _ _ _ _ w blank _ _ (told (ClientSays _ _ _) c.in-Is.is c.client_that_asks.ensures) _ _ _ (told (AllocSays _ _ _ _ _ _) c.in-At.is c.alloc.ensures)
-
-pub returns-in-No-alloc : goal.returns-in-No-alloc
-returns-in-No-alloc c = λ w blank. alloc_no _ _ _ _ w blank _ _ (told (ClientSays _ _ _) c.in-Is.is c.client_that_asks.ensures) c.in-No-alloc.why _ _ _ (told (AllocSays _ _ _ _ _ _) c.in-No-alloc.is c.alloc.ensures) c.of_no_frame.ensures
+pub returns-in-Err-alloc : goal.returns-in-Err-alloc
+returns-in-Err-alloc c = λ w blank. alloc_no _ _ _ _ w blank _ _ c.in-Ok.ensures c.in-Err-alloc.why _ _ _ c.in-Err-alloc.ensures c.of_no_frame.ensures

@@ -1,21 +1,14 @@
 -- `hv_blind::dealloc` meets its contract. Assumes nothing.
 use mathlib.Core.Path.{refl}
-use Rattle.base.proofs.Says.{told}
-use Rattle.global_allocator.specs.Changes.{DeallocSays}
-use Rattle.hv_state.proofs.Serving.{unsound}
-use Rattle.hv_asker.specs.Asking.{ClientSays}
-use Rattle.hv_asker.proofs.Laws.{disordered, unasked}
+use Rattle.hv_asker.proofs.Laws.{unheard}
 use Rattle.hv_blind.proofs.Laws.{dealloc_done, dealloc_no}
 use Rattle.hv_blind.proofs.dealloc.Goals as goal
 
-pub returns-in-Corrupt : goal.returns-in-Corrupt
-returns-in-Corrupt c = λ w blank. unsound _ _ _ _ (disordered _ (told (ClientSays _ _ _) c.in-Corrupt.is c.client_that_asks.ensures))
+pub returns-in-Err : goal.returns-in-Err
+returns-in-Err c = λ w blank. unheard _ _ _ _ _ (λ s m. refl) c.from.ensures c.in-Err.ensures
 
-pub returns-in-No : goal.returns-in-No
-returns-in-No c = λ w blank. unasked _ _ _ _ (λ s m. refl) (told (ClientSays _ _ _) c.in-No.is c.client_that_asks.ensures)
+pub returns-in-Ok-dealloc : goal.returns-in-Ok-dealloc
+returns-in-Ok-dealloc c = λ w blank. dealloc_done _ _ _ _ w blank _ _ c.in-Ok.ensures _ _ _ c.in-Ok-dealloc.ensures
 
-pub returns-in-Done : goal.returns-in-Done
-returns-in-Done c = λ w blank. dealloc_done _ _ _ _ w blank _ _ (told (ClientSays _ _ _) c.in-Is.is c.client_that_asks.ensures) _ _ _ (told (DeallocSays _ _ _ _ _ _ _) c.in-Done.is c.dealloc.ensures)
-
-pub returns-in-No-dealloc : goal.returns-in-No-dealloc
-returns-in-No-dealloc c = λ w blank. dealloc_no _ _ _ _ w blank _ _ (told (ClientSays _ _ _) c.in-Is.is c.client_that_asks.ensures) _ c.in-No-dealloc.why _ _ _ (told (DeallocSays _ _ _ _ _ _ _) c.in-No-dealloc.is c.dealloc.ensures) c.of_not_freed.ensures
+pub returns-in-Err-dealloc : goal.returns-in-Err-dealloc
+returns-in-Err-dealloc c = λ w blank. dealloc_no _ _ _ _ w blank _ _ c.in-Ok.ensures _ c.in-Err-dealloc.why _ _ _ c.in-Err-dealloc.ensures c.of_not_freed.ensures

@@ -4,7 +4,7 @@ use mathlib.Core.Path.{sym, ◌∙◌}
 use Rattle.bitmap_tree.proofs.Nodes.{bit_clear}
 use Rattle.bitmap_tree.proofs.Fullness.{full_bound}
 use Rattle.owners.proofs.Writes.{byte_at}
-use Rattle.hv_check.proofs.Laws.{place_within, laid_within, frame_free, frame_no_machine, frame_present, frame_absent}
+use Rattle.hv_check.proofs.Laws.{place_within, laid_within, frame_free, frame_no_machine, frame_says}
 use lib.ListN.{get_or}
 use Rattle.hv_check.proofs.is_frame_right.Goals as goal
 
@@ -26,14 +26,14 @@ overflow_cast-m c = omega (arith, c.shared_slice_known-4-1.given c.args.k)
 pub returns-then-n-m : goal.returns-then-n-m
 returns-then-n-m c = let e = c.requires.1.bytes in let x = byte_at c.args.owners.now c.args.k (omega arith) in frame_no_machine _ _ _ _ _ _ (bit_clear c.args.tree.now _ (λ q. c.if-read-eq1.false (c.read.ensures ∙ q))) (sym x) (omega arith)
 
-pub overflow_mul-slots : goal.overflow_mul-slots
-overflow_mul-slots c = let l = place_within c.args.zones.now c.args.slots (get_or c.args.owners.now c.args.k 0) (laid_within c.args.zones.now c.args.n c.args.slots (get_or c.args.owners.now c.args.k 0) c.requires.0 (omega (arith, c.if-n-m.false))) in omega arith
+pub overflow_mul-result : goal.overflow_mul-result
+overflow_mul-result c = let l = place_within c.args.zones.now c.args.slots (get_or c.args.owners.now c.args.k 0) (laid_within c.args.zones.now c.args.n c.args.slots (get_or c.args.owners.now c.args.k 0) c.requires.0 (omega (arith, c.if-n-m.false))) in omega arith
 
-pub overflow_add-slots : goal.overflow_add-slots
-overflow_add-slots c = let l = place_within c.args.zones.now c.args.slots (get_or c.args.owners.now c.args.k 0) (laid_within c.args.zones.now c.args.n c.args.slots (get_or c.args.owners.now c.args.k 0) c.requires.0 (omega (arith, c.if-n-m.false))) in omega arith
+pub overflow_add-result : goal.overflow_add-result
+overflow_add-result c = let l = place_within c.args.zones.now c.args.slots (get_or c.args.owners.now c.args.k 0) (laid_within c.args.zones.now c.args.n c.args.slots (get_or c.args.owners.now c.args.k 0) c.requires.0 (omega (arith, c.if-n-m.false))) in omega arith
 
-pub overflow_mul-m : goal.overflow_mul-m
-overflow_mul-m c = let l = place_within c.args.zones.now c.args.slots (get_or c.args.owners.now c.args.k 0) (laid_within c.args.zones.now c.args.n c.args.slots (get_or c.args.owners.now c.args.k 0) c.requires.0 (omega (arith, c.if-n-m.false))) in record { fits = omega arith }
+pub overflow_mul-result-2 : goal.overflow_mul-result-2
+overflow_mul-result-2 c = let l = place_within c.args.zones.now c.args.slots (get_or c.args.owners.now c.args.k 0) (laid_within c.args.zones.now c.args.n c.args.slots (get_or c.args.owners.now c.args.k 0) c.requires.0 (omega (arith, c.if-n-m.false))) in record { fits = omega arith }
 
 pub offset_bounds-zones-m : goal.offset_bounds-zones-m
 offset_bounds-zones-m c = let l = place_within c.args.zones.now c.args.slots (get_or c.args.owners.now c.args.k 0) (laid_within c.args.zones.now c.args.n c.args.slots (get_or c.args.owners.now c.args.k 0) c.requires.0 (omega (arith, c.if-n-m.false))) in omega arith
@@ -41,8 +41,5 @@ offset_bounds-zones-m c = let l = place_within c.args.zones.now c.args.slots (ge
 pub bounds-zones-m : goal.bounds-zones-m
 bounds-zones-m c = let l = place_within c.args.zones.now c.args.slots (get_or c.args.owners.now c.args.k 0) (laid_within c.args.zones.now c.args.n c.args.slots (get_or c.args.owners.now c.args.k 0) c.requires.0 (omega (arith, c.if-n-m.false))) in omega arith
 
-pub returns-then-zones-m-eq1 : goal.returns-then-zones-m-eq1
-returns-then-zones-m-eq1 c = let e = c.requires.1.bytes in let x = byte_at c.args.owners.now c.args.k (omega arith) in frame_present _ _ _ _ _ _ _ c.requires.0 (bit_clear c.args.tree.now _ (λ q. c.if-read-eq1.false (c.read.ensures ∙ q))) (sym x) (omega (arith, c.if-n-m.false)) c.if-zones-m-eq1.true
-
-pub returns-else-zones-m-eq1 : goal.returns-else-zones-m-eq1
-returns-else-zones-m-eq1 c = let e = c.requires.1.bytes in let x = byte_at c.args.owners.now c.args.k (omega arith) in frame_absent _ _ _ _ _ _ _ c.requires.0 (bit_clear c.args.tree.now _ (λ q. c.if-read-eq1.false (c.read.ensures ∙ q))) (sym x) (omega (arith, c.if-n-m.false)) c.if-zones-m-eq1.false
+pub returns : goal.returns
+returns c = let e = c.requires.1.bytes in let x = byte_at c.args.owners.now c.args.k (omega arith) in frame_says _ _ _ _ _ _ _ c.requires.0 (bit_clear c.args.tree.now _ (λ q. c.if-read-eq1.false (c.read.ensures ∙ q))) (sym x) (omega (arith, c.if-n-m.false))

@@ -1,22 +1,17 @@
 -- `hv_empty::has_no_region` meets its contract. Assumes nothing.
-use Rattle.base.proofs.Says.{told}
-use Rattle.base.proofs.Choices.{both_yes}
-use Rattle.memory_set.specs.Looks.{EmptySays}
+use mathlib.Core.Path.{◌∙◌}
 use Rattle.machine.specs.declared.Which.TheVariants.{Processors, Devices}
-use Rattle.hv_empty.proofs.Laws.{bare_is, no_set_lem, no_first, no_second}
+use Rattle.hv_empty.proofs.Laws.{bare_is, no_set_lem, unread, no_first, as_second}
 use Rattle.hv_empty.proofs.has_no_region.Goals as goal
 
-pub returns-in-Bad : goal.returns-in-Bad
-returns-in-Bad c = no_set_lem _ _ _ _ Processors c.in-Bad.field-0 c.requires c.set_at.ensures (told (EmptySays _ _ _) c.in-Bad.is c.is_empty.ensures)
+pub returns-in_err-processors : goal.returns-in_err-processors
+returns-in_err-processors c = unread _ _ _ _ c.from_residual.result c.from_residual.ensures.1 (no_set_lem _ _ _ _ Processors _ c.requires c.set_at.ensures c.in_err-processors.ensures)
 
-pub returns-in-No : goal.returns-in-No
-returns-in-No c = no_first _ _ (bare_is _ _ _ _ Processors _ c.set_at.ensures (told (EmptySays _ _ _) c.in-No.is c.is_empty.ensures).1)
+pub returns-then-not-processors : goal.returns-then-not-processors
+returns-then-not-processors c = no_first _ _ (bare_is _ _ _ _ Processors _ c.set_at.ensures (c.in_ok-processors.ensures.1 ∙ c.if-not-processors.true))
 
-pub returns-in-Bad-is_empty : goal.returns-in-Bad-is_empty
-returns-in-Bad-is_empty c = no_set_lem _ _ _ _ Devices c.in-Bad-is_empty.field-0 c.requires c.set_at-in-Yes.ensures (told (EmptySays _ _ _) c.in-Bad-is_empty.is c.is_empty-in-Yes.ensures)
+pub returns-in_err-devices : goal.returns-in_err-devices
+returns-in_err-devices c = unread _ _ _ _ c.from_residual-in_err-devices.result c.from_residual-in_err-devices.ensures.1 (no_set_lem _ _ _ _ Devices _ c.requires c.set_at-2.ensures c.in_err-devices.ensures)
 
-pub returns-in-No-is_empty : goal.returns-in-No-is_empty
-returns-in-No-is_empty c = no_second _ _ (bare_is _ _ _ _ Processors _ c.set_at.ensures (told (EmptySays _ _ _) c.in-Yes.is c.is_empty.ensures).1) (bare_is _ _ _ _ Devices _ c.set_at-in-Yes.ensures (told (EmptySays _ _ _) c.in-No-is_empty.is c.is_empty-in-Yes.ensures).1)
-
-pub returns-in-Yes-is_empty : goal.returns-in-Yes-is_empty
-returns-in-Yes-is_empty c = both_yes (bare_is _ _ _ _ Processors _ c.set_at.ensures (told (EmptySays _ _ _) c.in-Yes.is c.is_empty.ensures).1) (bare_is _ _ _ _ Devices _ c.set_at-in-Yes.ensures (told (EmptySays _ _ _) c.in-Yes-is_empty.is c.is_empty-in-Yes.ensures).1)
+pub returns : goal.returns
+returns c = as_second _ _ _ (bare_is _ _ _ _ Processors _ c.set_at.ensures (c.in_ok-processors.ensures.1 ∙ c.if-not-processors.false)) (bare_is _ _ _ _ Devices _ c.set_at-2.ensures c.in_ok-devices.ensures.1)

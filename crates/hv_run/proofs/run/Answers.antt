@@ -1,8 +1,8 @@
 -- `hv_run::run` meets its contract. Assumes nothing.
 use mathlib.Core.Path.{refl}
 use native.Mathlib.Omega.{arith}
-use Rattle.base.proofs.Says.{told, refused, not_refused}
-use Rattle.call_bytes.specs.Framing.{FramingSays}
+use Rattle.std.proofs.lemmas.Result.{err_from_is_err_and}
+use Rattle.base.proofs.Says.{refused, not_refused}
 use Rattle.hv_run.proofs.Laws.{served_all}
 use Rattle.hv_run.proofs.run.Goals as goal
 
@@ -22,10 +22,30 @@ pub returns-then-not-fits_spare : goal.returns-then-not-fits_spare
 returns-then-not-fits_spare c = (record { for_replies = omega (arith, c.if-replies-len.false); for_answers = omega (arith, c.if-answers-len.false) }, refused c.fits_spare.result c.if-not-fits_spare.true-raw c.fits_spare.ensures, refl, refl, refl)
 
 pub serve_items-requires : goal.serve_items-requires
-serve_items-requires c = let i = told (FramingSays _) c.in-Whole.is c.framing_of.ensures in (not_refused c.fits_spare.result c.if-not-fits_spare.false-raw c.fits_spare.ensures, omega (arith, c.if-replies-len.false), omega (arith, c.if-answers-len.false), (i.items, i.framed))
+serve_items-requires c =
+    let i = c.in_ok-n.ensures in
+    record {
+      spare = not_refused c.fits_spare.result c.if-not-fits_spare.false-raw c.fits_spare.ensures;
+      replies = omega (arith, c.if-replies-len.false);
+      answers = omega (arith, c.if-answers-len.false);
+      framed = (i.items, i.framed);
+    }
 
-pub returns-in-Broken : goal.returns-in-Broken
-returns-in-Broken c = (record { for_replies = omega (arith, c.if-replies-len.false); for_answers = omega (arith, c.if-answers-len.false) }, not_refused c.fits_spare.result c.if-not-fits_spare.false-raw c.fits_spare.ensures, told (FramingSays _) c.in-Broken.is c.framing_of.ensures, refl, refl, refl)
+pub returns-in_err-n : goal.returns-in_err-n
+returns-in_err-n c =
+    let e = err_from_is_err_and c.from_residual.result c.from_residual.ensures.1 in
+    rw (e.1, e.2) (
+      record { for_replies = omega (arith, c.if-replies-len.false); for_answers = omega (arith, c.if-answers-len.false) },
+      not_refused c.fits_spare.result c.if-not-fits_spare.false-raw c.fits_spare.ensures,
+      c.in_err-n.ensures,
+      refl,
+      refl,
+      refl,
+    )
 
-pub returns-in-Whole : goal.returns-in-Whole
-returns-in-Whole c = (record { for_replies = omega (arith, c.if-replies-len.false); for_answers = omega (arith, c.if-answers-len.false) }, not_refused c.fits_spare.result c.if-not-fits_spare.false-raw c.fits_spare.ensures, served_all (told (FramingSays _) c.in-Whole.is c.framing_of.ensures) c.serve_items.ensures)
+pub returns : goal.returns
+returns c = (
+  record { for_replies = omega (arith, c.if-replies-len.false); for_answers = omega (arith, c.if-answers-len.false) },
+  not_refused c.fits_spare.result c.if-not-fits_spare.false-raw c.fits_spare.ensures,
+  served_all c.in_ok-n.ensures c.serve_items.ensures,
+)

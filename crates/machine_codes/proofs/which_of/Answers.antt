@@ -1,6 +1,7 @@
 -- `machine_codes::which_of` meets its contract. Assumes nothing.
 use mathlib.Core.Path.{◌≡◌, refl, sym, ap}
 use Prim.Native.Nat.{ℕ, zero, suc}
+use native.Mathlib.Omega.{arith}
 use Rattle.machine.specs.declared.Which.{Which}
 use Rattle.machine_codes.specs.Codes.{which_of}
 use Rattle.machine_codes.proofs.which_of.Goals as goal
@@ -11,9 +12,9 @@ unfolding which_of
 other zero no_zero = absurd (no_zero refl)
 other (suc n) no_zero = refl
 
-pub returns-then-n-eq0 : goal.returns-then-n-eq0
+pub returns-in-0 : goal.returns-in-0
 unfolding which_of
-returns-then-n-eq0 c = sym (ap which_of c.if-n-eq0.true)
+returns-in-0 c = sym (ap which_of c.in-0.is)
 
-pub returns : goal.returns
-returns c = other c.args.n c.if-n-eq0.false
+pub returns-in_default : goal.returns-in_default
+returns-in_default c = other c.args.n (omega arith)

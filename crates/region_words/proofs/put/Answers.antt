@@ -17,4 +17,4 @@ pub shape_of-t : goal.shape_of-t
 shape_of-t c = simp length-set
 
 pub returns : goal.returns
-returns c = put_four c.args.t.now c.args.at c.args.r c.number_of-flags.result c.requires c.number_of-flags.ensures
+returns c = put_four c.args.t.now c.args.at c.args.r c.number_of.result c.requires c.number_of.ensures

@@ -4,8 +4,8 @@ use Rattle.replayframes.specs.Bitmap.{reset_code}
 use Rattle.codes.proofs.Codes.{coded}
 use Rattle.replayframes.proofs.rf_bitmap_reset.Goals as goal
 
-pub returns-in-Done : goal.returns-in-Done
-returns-in-Done c = coded (ResetSays _ _) reset_code c.reset.ensures c.in-Done.is
+pub returns-in-Ok : goal.returns-in-Ok
+returns-in-Ok c = coded (ResetSays _ _) reset_code c.reset.ensures c.in-Ok.is
 
-pub returns-in-NotFull : goal.returns-in-NotFull
-returns-in-NotFull c = coded (ResetSays _ _) reset_code c.reset.ensures c.in-NotFull.is
+pub returns-in-Err : goal.returns-in-Err
+returns-in-Err c = coded (ResetSays _ _) reset_code c.reset.ensures c.in-Err.is

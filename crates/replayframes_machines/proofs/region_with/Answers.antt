@@ -4,4 +4,4 @@ use Rattle.region_words.proofs.Laws.{region_once}
 use Rattle.replayframes_machines.proofs.region_with.Goals as goal
 
 pub returns : goal.returns
-returns c = region_once _ _ refl refl refl c.kind_of-named.ensures
+returns c = region_once _ _ refl refl refl c.kind_of.ensures

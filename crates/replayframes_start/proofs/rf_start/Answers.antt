@@ -4,8 +4,8 @@ use Rattle.hv_start.specs.Starting.{StartSays}
 use Rattle.replayframes_start.specs.Start.{started_code}
 use Rattle.replayframes_start.proofs.rf_start.Goals as goal
 
-pub returns-in-Done : goal.returns-in-Done
-returns-in-Done c = coded (StartSays _ _ _) started_code c.start.ensures c.in-Done.is
+pub returns-in-Ok : goal.returns-in-Ok
+returns-in-Ok c = coded (StartSays _ _ _) started_code c.start.ensures c.in-Ok.is
 
-pub returns-in-No : goal.returns-in-No
-returns-in-No c = coded_by (StartSays _ _ _) started_code c.start.ensures c.in-No.is c.not_started.ensures
+pub returns-in-Err : goal.returns-in-Err
+returns-in-Err c = coded_by (StartSays _ _ _) started_code c.start.ensures c.in-Err.is c.not_started.ensures

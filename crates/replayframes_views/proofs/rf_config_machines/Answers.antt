@@ -1,14 +1,11 @@
 -- `replayframes_views::rf_config_machines` meets its contract. Assumes nothing.
 use Rattle.config_table.specs.Holding.{MachinesSays}
-use Rattle.replayframes_views.specs.Views.{counted_code, counted_value}
+use Rattle.replayframes_views.specs.Views.{result_code, result_value, no_table_code, itself}
 use Rattle.codes.proofs.Codes.{valued}
 use Rattle.replayframes_views.proofs.rf_config_machines.Goals as goal
 
-pub returns-in-Number : goal.returns-in-Number
-returns-in-Number c = valued (MachinesSays _) counted_code counted_value _ c.machines.ensures c.in-Number.is
+pub returns-in-Ok : goal.returns-in-Ok
+returns-in-Ok c = valued (MachinesSays _) (result_code no_table_code) (result_value itself) _ c.machines.ensures c.in-Ok.is
 
-pub returns-in-NoMachine : goal.returns-in-NoMachine
-returns-in-NoMachine c = valued (MachinesSays _) counted_code counted_value _ c.machines.ensures c.in-NoMachine.is
-
-pub returns-in-NoTable : goal.returns-in-NoTable
-returns-in-NoTable c = valued (MachinesSays _) counted_code counted_value _ c.machines.ensures c.in-NoTable.is
+pub returns-in-Err : goal.returns-in-Err
+returns-in-Err c = valued (MachinesSays _) (result_code no_table_code) (result_value itself) _ c.machines.ensures c.in-Err.is

@@ -1,20 +1,13 @@
 -- `replayframes_views::rf_zone_there` meets its contract. Assumes nothing.
+use mathlib.Core.Path.{refl}
 use Rattle.hv_looks.specs.Looks.{PresenceSays}
-use Rattle.replayframes_views.specs.Views.{presence_code, presence_value}
-use Rattle.codes.proofs.Codes.{valued}
+use Rattle.replayframes_views.specs.Views.{result_code, result_value, not_seen_code, there_value}
+use Rattle.codes.proofs.Codes.{valued_by}
+use Rattle.replayframes_views.proofs.Laws.{there_byte}
 use Rattle.replayframes_views.proofs.rf_zone_there.Goals as goal
 
-pub returns-in-Here : goal.returns-in-Here
-returns-in-Here c = valued (PresenceSays _ _ _) presence_code presence_value _ c.is_there.ensures c.in-Here.is
+pub returns-in-Ok : goal.returns-in-Ok
+returns-in-Ok c = valued_by (PresenceSays _ _ _) (result_code not_seen_code) (result_value there_value) c.is_there.ensures c.in-Ok.is refl (there_byte c.in-Ok.answer)
 
-pub returns-in-Away : goal.returns-in-Away
-returns-in-Away c = valued (PresenceSays _ _ _) presence_code presence_value _ c.is_there.ensures c.in-Away.is
-
-pub returns-in-NoMachine : goal.returns-in-NoMachine
-returns-in-NoMachine c = valued (PresenceSays _ _ _) presence_code presence_value _ c.is_there.ensures c.in-NoMachine.is
-
-pub returns-in-NoTable : goal.returns-in-NoTable
-returns-in-NoTable c = valued (PresenceSays _ _ _) presence_code presence_value _ c.is_there.ensures c.in-NoTable.is
-
-pub returns-in-Corrupt : goal.returns-in-Corrupt
-returns-in-Corrupt c = valued (PresenceSays _ _ _) presence_code presence_value _ c.is_there.ensures c.in-Corrupt.is
+pub returns-in-Err : goal.returns-in-Err
+returns-in-Err c = valued_by (PresenceSays _ _ _) (result_code not_seen_code) (result_value there_value) c.is_there.ensures c.in-Err.is c.not_seen_code.ensures refl

@@ -1,11 +1,7 @@
--- What the loop of `set_slots::first_wrong` keeps, and why it ends. Assumes nothing.
-use Prim.Native.Nat.{◌-◌, ◌≤◌}
-use Rattle.base.specs.Search.{Stops}
+-- What the loop of `set_slots::first_wrong` keeps. Assumes nothing.
+use Prim.Native.Nat.{ℕ, ◌≤◌, ◌<◌}
 use Rattle.set_slots.specs.Slots.{UsedOk}
 use Rattle.set_slots.proofs.first_wrong.Given as goal
 
 abbrev pub invariant-loop-i : goal.invariant-loop-i
-invariant-loop-i l = (l.i ≤ l.n) × Stops (UsedOk l.z l.at) 0 l.i l.i
-
-abbrev pub decreases-loop-i : goal.decreases-loop-i
-decreases-loop-i l = l.n - l.i
+invariant-loop-i l = (k : ℕ) → 0 ≤ k → k < l.i → UsedOk l.z l.at k

@@ -1,9 +1,0 @@
--- What the loop of `request` keeps, and why it ends. Assumes nothing.
-use Rattle.std.proofs.Common.{◌-◌}
-use Rattle.bitmap_names.proofs.request.Given as goal
-
-abbrev pub invariant-loop-k : goal.invariant-loop-k
-invariant-loop-k l = Unit {0}
-
-abbrev pub decreases-loop-k : goal.decreases-loop-k
-decreases-loop-k l = 14 - l.k

@@ -1,9 +1,0 @@
--- What the loop of `start` keeps, and why it ends. Assumes nothing.
-use Rattle.std.proofs.Common.{◌-◌}
-use Rattle.bitmap_names.proofs.start.Given as goal
-
-abbrev pub invariant-loop-i : goal.invariant-loop-i
-invariant-loop-i l = Unit {0}
-
-abbrev pub decreases-loop-i : goal.decreases-loop-i
-decreases-loop-i l = l.k - l.i

@@ -1,9 +1,0 @@
--- What the loop of `all` keeps, and why it ends. Assumes nothing.
-use Rattle.std.proofs.Common.{◌-◌}
-use Rattle.bitmap_plain.proofs.all.Given as goal
-
-abbrev pub invariant-loop-k : goal.invariant-loop-k
-invariant-loop-k l = Unit {0}
-
-abbrev pub decreases-loop-k : goal.decreases-loop-k
-decreases-loop-k l = l.b - l.k

@@ -1,9 +1,0 @@
--- What the loop of `same` keeps, and why it ends. Assumes nothing.
-use Rattle.std.proofs.Common.{◌-◌, length}
-use Rattle.bitmap_plain.proofs.same.Given as goal
-
-abbrev pub invariant-loop-i : goal.invariant-loop-i
-invariant-loop-i l = Unit {0}
-
-abbrev pub decreases-loop-i : goal.decreases-loop-i
-decreases-loop-i l = length l.tree - l.i

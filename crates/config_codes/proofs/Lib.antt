@@ -1,2 +1,0 @@
--- A law of four numbers.
-pub mod Laws

@@ -1,2 +1,0 @@
--- The laws of the rules on two regions.
-pub mod Laws

@@ -1,2 +1,0 @@
--- The laws of numbers.
-pub mod Laws

@@ -1,2 +1,0 @@
--- What a copy is.
-pub mod Laws

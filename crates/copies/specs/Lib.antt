@@ -1,2 +1,0 @@
--- What is copied.
-pub mod Copying
