@@ -178,7 +178,8 @@ pub extern "C" fn rf_alloc_contiguous(
     align_log2: usize,
     addr: &mut u64,
 ) -> u32
-    ensures { ServedValue (mem table.now zones.now tree.old owners.old words.now) number (AllocContiguous size align_log2) (mem table.now zones.now tree.new owners.new words.now) addr.old addr.new result }
+    ensures { ServedValue (mem table.now zones.now tree.old owners.old words.now) number (AllocContiguous size align_log2)
+        (mem table.now zones.now tree.new owners.new words.now) addr.old addr.new result }
 {
     let answer = hv_frames::alloc_contiguous(
         table, zones, tree, owners, words, number, size, align_log2,
