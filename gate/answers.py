@@ -3,7 +3,7 @@
 The examples of the crate some_crate stand in a file SomeCrate.antt among the proofs of a crate whose name ends in _examples. An
 answer is named by the function and the variants on the way to it: `alloc_no_room`, `start_zones_wrong`. Of a Result, an error is
 named by its variants, or by its type if that is a struct, and the value by `ok`; a value that is a bool, an Option or an enum is
-named by `true` and `false`, by `some` and `none`, or by its variants. What stands for it is one of
+named by `true` and `false`, by `none` and by `some` with what it has, or by its variants. What stands for it is one of
 
     NAME          an example: the contract at that answer, met by words and arguments
     NAME_never    a theorem that the contract has no such answer, or none of sound memories
@@ -99,7 +99,7 @@ def answers(repository, crate, kind):
     if name == "bool":
         return [("true",), ("false",)]
     if name == "Option":
-        return [("Some",), ("None",)]
+        return [("Some", *way) for way in answers(repository, crate, given[0])] + [("None",)]
     if name == "Result":
         value = answers(repository, crate, given[0])
         return [way or ("Ok",) for way in value] + [way or (Struct(parts(given[1])[0]),) for way in answers(repository, crate, given[1])]

@@ -253,6 +253,7 @@ WAYS = [
     ("usize", [()]),
     ("bool", [("true",), ("false",)]),
     ("Option<(usize, usize)>", [("Some",), ("None",)]),
+    ("Option<Why>", [("Some", "TooMany"), ("Some", "TooFew"), ("None",)]),
     ("Result<(), Why>", [("Ok",), ("TooMany",), ("TooFew",)]),
     ("Result<bool, inner::Gone>", [("true",), ("false",), ("Gone",)]),
     ("Result<Option<usize>, Kept<How>>", [("Some",), ("None",), ("All",), ("No", "Well")]),

@@ -34,7 +34,8 @@ fn is_shared(r: Region) -> bool
 fn alone(m: usize, i: usize, a: Region, m2: usize, i2: usize, b: Region) -> bool
     ensures { Says result (Alone m i a m2 i2 b) }
 {
-    is_shared(a) || (m == m2 && i == i2) || !address::overlaps_pmem(a, b)
+    // The overlap first: nearly all pairs have none.
+    !address::overlaps_pmem(a, b) || (m == m2 && i == i2) || is_shared(a)
 }
 
 // Whether two shared regions, of which a stands before b, may share what they share.

@@ -10,6 +10,16 @@ ghost use Rattle.list_undo.specs.Undoing.{SpareFits, UndoneSays};
 
 use list_attempt::Halted;
 
+// Copies one memory into another. A loop, since `copy_from_slice` would have the archive ask for `memmove`.
+fn copy<T: Copy>(from: &[T], to: &mut [T])
+    requires { length to.old ≡ length from.now }
+    ensures { to.new ≡ from.now }
+{
+    for i in 0..from.len() {
+        to[i] = from[i];
+    }
+}
+
 // Copies the machines' words, the tree and the owners.
 fn copy_all(
     zones: &[u64],
@@ -24,9 +34,9 @@ fn copy_all(
     ensures tree { to_tree.new ≡ tree.now }
     ensures owners { to_owners.new ≡ owners.now }
 {
-    to_zones.copy_from_slice(zones);
-    to_tree.copy_from_slice(tree);
-    to_owners.copy_from_slice(owners);
+    copy(zones, to_zones);
+    copy(tree, to_tree);
+    copy(owners, to_owners);
 }
 
 // Attempts the n requests in the bytes from p on, and leaves everything as it was where one is refused. The

@@ -1,8 +1,9 @@
 -- What counts as a client's frame. Assumes nothing.
-use mathlib.Core.Path.{◌≡◌, refl, ap}
+use mathlib.Core.Path.{◌≡◌, refl, sym, ap}
 use mathlib.Core.List.{List}
 use mathlib.Core.Bool.{Bool, true, false}
 use Prim.Native.Nat.{ℕ, suc, ◌+◌, ◌<◌}
+use mir.Val.{bool_byte}
 use native.Mathlib.Omega.{arith}
 use lib.Dec.{eqb}
 use lib.ListN.{get_or}
@@ -22,6 +23,11 @@ pub owns_none : (c : ℕ) (s : State) → (s ≡ Owned c → ⊥) → owns c s �
 owns_none c Free n = refl
 owns_none c Reserved n = refl
 owns_none c (Owned d) n = rw (ne_eqb d c (λ e. n (ap Owned e)))
+
+-- a yes or no as a number, where it says whether a state is the client's
+pub owns_said : (c : ℕ) (s : State) (b : Bool) → (b ≡ true → s ≡ Owned c) → (b ≡ false → s ≡ Owned c → ⊥) → bool_byte b ≡ owns c s
+owns_said c s true y n = sym (owns_one c s (y refl))
+owns_said c s false y n = sym (owns_none c s (n refl))
 
 pub owns_small : (c : ℕ) (s : State) → owns c s < 2
 owns_small c Free = omega arith

@@ -15,8 +15,8 @@ pub fn one_if_owned(tree: &[u16], owners: &[u8], k: usize, c: u8) -> usize
     requires { Matched tree.now owners.now × (k ≤ 15 * length tree.now) × (c < 64) }
     ensures { result ≡ owns c (state tree.now owners.now k) }
 {
-    if owners[k] == c && bitmap_tree::read(tree, tree.len() + k) == 0 {
-        1
+    if owners[k] == c {
+        usize::from(bitmap_tree::read(tree, tree.len() + k) == 0)
     } else {
         0
     }
@@ -47,7 +47,8 @@ fn in_order(base: usize, k: usize, bit: u16, c: u8) -> bool
     ensures { Says result (Right base k bit c) }
 {
     match c {
-        255 => bit == 0 || placed(base, k),
+        // The place first: nearly every frame has one, and the bit follows no pattern.
+        255 => placed(base, k) || bit == 0,
         0..=63 => bit == 0 && placed(base, k),
         _ => false,
     }
@@ -68,6 +69,19 @@ pub fn right_until(tree: &[u16], owners: &[u8], base: usize) -> usize
     owners.len()
 }
 
+// The first frame from a on whose byte is c, or the number of frames.
+fn other_until(owners: &[u8], a: usize, c: u8) -> usize
+    requires { a ≤ length owners.now }
+    ensures { Stops (λ k. get_or owners.now k 255 ≡ c → ⊥) a (length owners.now) result }
+{
+    for k in a..owners.len() {
+        if owners[k] == c {
+            return k;
+        }
+    }
+    owners.len()
+}
+
 // Makes every frame of the client c free, a stretch of them at a time.
 pub fn release(tree: &mut [u16], owners: &mut [u8], c: u8)
     requires { Matched tree.old owners.old × (c < 64) }
@@ -76,8 +90,11 @@ pub fn release(tree: &mut [u16], owners: &mut [u8], c: u8)
     let end = owners.len();
     let mut k: usize = 0;
     // A `while`, since a stretch ends where its bytes do.
-    while let Some(i) = owners[k..].iter().position(|x| *x == c) {
-        let a = k + i;
+    while k < end {
+        let a = other_until(owners, k, c);
+        if a == end {
+            return;
+        }
         k = owners::byte_until(owners, a, end, c);
         owners::assign(tree, owners, a, k, 1, 255);
     }

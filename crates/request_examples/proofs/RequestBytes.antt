@@ -27,9 +27,9 @@ request op a b c d = op ∷ put a (put b (put c (put d [])))
 abbrev pub page : Region
 page = record { guest = 0; host = 4096; pages = 1; kind = Kind.Ordinary }
 
-pub read_at_some : ReadSays (request 0 0 0 0 0) 0 (Some AddZone)
+pub read_at_some_add_zone : ReadSays (request 0 0 0 0 0) 0 (Some AddZone)
 unfolding requests.numbers_at requests.request_of fields.le64 fields.le32 fields.le16
-read_at_some = (refl, record { whole = lit≤ tt; numbers = refl })
+read_at_some_add_zone = (refl, record { whole = lit≤ tt; numbers = refl })
 
 pub read_at_some_remove_zone : ReadSays (request 1 0 0 0 0) 0 (Some RemoveZone)
 unfolding requests.numbers_at requests.request_of fields.le64 fields.le32 fields.le16

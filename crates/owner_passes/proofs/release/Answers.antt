@@ -1,34 +1,32 @@
 -- `owner_passes::release` meets its contract. Assumes nothing.
-use mathlib.Core.Path.{refl}
-use Prim.Native.Nat.{◌-◌}
+use native.Mathlib.Omega.{arith}
 use lib.ListN.{length}
-use Rattle.std.specs.Prelude.{None, Some}
-use Rattle.std.proofs.Common.{rules, tests, arith, ◌≡◌, ◌≢◌}
-use Rattle.std.proofs.lemmas.Iterator.{IsFirst-from_position, YieldsList-from_slice}
-use Rattle.base.proofs.Positions.{part, stops_position}
-use Rattle.owner_passes.proofs.Releasing.{release_more, release_done}
+use Rattle.base.proofs.Search.{stops_none, stops_at}
+use Rattle.owner_passes.proofs.Releasing.{release_more, release_done, stretch_some}
 use Rattle.owner_passes.proofs.release.Goals as goal
 
-pub loop-i-preserved : goal.loop-i-preserved
-loop-i-preserved c =
-    let r = c.loop-i.invariant.1 in
-    let o = c.loop-i.owners in
-    let k = c.loop-i.k in
-    let l = r.bytes in let w = r.words in let e = c.requires.0.bytes in let y = c.byte_until-k.ensures in let h = y.high in (
-      omega arith,
-      release_more _ _ _ _ _ _ _ _ _ _ c.requires.1 r
-          (stops_position (λ x. x ≡ c.args.c) (λ x. x ≢ c.args.c) o k (length o - k) (length o) 255 (Some c.in-Some.i) (omega arith) (omega arith) (λ x a b. b a)
-          (IsFirst-from_position _ _ (Some c.in-Some.i) (λ x. x ≡ c.args.c) (λ x. x ≢ c.args.c) c.in-Some.ensures.ran (YieldsList-from_slice (part o k (length o - k)) cc) (λ x q k. search (rules, tests)) (λ x q k. search (rules, tests))))
-          (rw l y) (omega arith) c.assign.ensures,
-    )
+pub returns-then-a-end : goal.returns-then-a-end
+returns-then-a-end c =
+    let r = c.loop-k.invariant.1 in
+    let l = r.bytes in
+    release_done _ _ _ _ _ 0 _ _ c.loop-k.tree c.loop-k.owners c.requires.1 r c.other_until-a.ensures (omega (arith, c.if-a-end.true)) c.requires.0.bytes
+
+pub loop-k-smaller : goal.loop-k-smaller
+loop-k-smaller c =
+    let l = c.loop-k.invariant.1.bytes in
+    let x = c.other_until-a.ensures in let y = c.byte_until-k.ensures in let low = x.low in let h = x.high in let g = y.high in
+    let s = stretch_some c.loop-k.owners c.args.c c.loop-k.k (length c.loop-k.owners) c.other_until-a.result c.byte_until-k.result x (rw l y) (omega (arith, c.if-a-end.false)) in
+    omega arith
+
+pub loop-k-preserved : goal.loop-k-preserved
+loop-k-preserved c =
+    let r = c.loop-k.invariant.1 in
+    let l = r.bytes in let w = r.words in let e = c.requires.0.bytes in let y = c.byte_until-k.ensures in let h = y.high in
+    (omega arith, release_more _ _ _ _ _ _ _ _ _ _ c.requires.1 r c.other_until-a.ensures (rw l y) (omega arith) c.assign.ensures)
 
 pub returns : goal.returns
 returns c =
-    let r = c.loop-i.invariant.1 in
-    let o = c.loop-i.owners in
-    let k = c.loop-i.k in
-    let l = r.bytes in
-    release_done _ _ _ k (length o) 0 _ _ c.loop-i.tree o c.requires.1 r
-    (stops_position (λ x. x ≡ c.args.c) (λ x. x ≢ c.args.c) o k (length o - k) (length o) 255 None (omega arith) (omega arith) (λ x a b. b a)
-    (IsFirst-from_position _ _ None (λ x. x ≡ c.args.c) (λ x. x ≢ c.args.c) c.in_default.ensures.ran (YieldsList-from_slice (part o k (length o - k)) cc) (λ x q k. search (rules, tests)) (λ x q k. search (rules, tests))))
-    refl c.requires.0.bytes
+    let i = c.loop-k.invariant in
+    let l = i.1.bytes in
+    release_done _ _ _ _ c.loop-k.k 0 _ _ c.loop-k.tree c.loop-k.owners c.requires.1 i.1
+    (stops_at _ (stops_none _) (omega arith) (λ q. absurd (omega arith))) (omega arith) c.requires.0.bytes

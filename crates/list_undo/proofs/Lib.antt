@@ -1,0 +1,2 @@
+-- One list as a copy of another.
+mod Copies
